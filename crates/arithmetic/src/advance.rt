@@ -1,0 +1,12 @@
+// The advance of one read over another.
+ghost use mathlib.Core.Path.{_≡_};
+ghost use Rattle.arithmetic.specs.Advance.{advanceOf};
+use crate::powers::power;
+
+// newer − older + flags × 10^n: negative after a step back that no flag makes good.
+pub fn advance(n: u8, newer: u32, flags: u8, older: u32) -> i64
+    ensures { λ r. ⌜ r ≡ advanceOf n newer flags older ⌝ }
+{
+    let turned = power(n) * (flags as u64);
+    (newer as i64) - (older as i64) + (turned as i64)
+}

@@ -1,0 +1,203 @@
+-- 01, Calls: what each call answers and what it leaves, byte for byte.
+use mathlib.Core.Bool.{Bool, true, false, not, _||_}
+use mathlib.Core.List.{List, [], _∷_}
+use Prim.Native.Nat.{ℕ, _*_}
+use lib.Dec.{eqb, leb, ltb}
+use lib.IntN.{ℤ, pos, negℤ}
+use lib.ListN.{length, set, take, drop}
+use Rattle.arithmetic.specs.Advance.{advanceOf}
+use Rattle.terms.specs.declared.answer.Answer.{Answer}
+use Rattle.terms.specs.declared.answer.Report.{Report}
+use Rattle.terms.specs.declared.entry.Entry.{Entry}
+use Rattle.terms.specs.declared.entry.Slot.{Slot}
+use Rattle.terms.specs.declared.entry.Slot.the-variants.{Read, Empty}
+use Rattle.terms.specs.declared.submission.Submission.{Submission}
+use Rattle.terms.specs.Answer.{answer, refusal, refusedReport}
+use Rattle.terms.specs.Entry.{kindStanding, kindWithdrawn, kindHeld, slotAt, those}
+use Rattle.terms.specs.Number.{accepted, misfit, noMeter, low, high}
+use Rattle.terms.specs.Rule.{firstBroken, numberIf}
+use Rattle.rules.specs.Volume.{advanceOver}
+use Rattle.register.specs.Area.{areaBytes, areas, registerBytes, areaOf, withArea}
+use Rattle.register.specs.Entries.{entryStart, putMeter, putEntry, zeroEntry}
+use Rattle.journal.specs.Journal.{Journal, journalOf, entryCount, standing, kept, heldOf}
+use Rattle.journal.specs.Survey.{isFlagged, isThere, firstValue, newestAt}
+use Rattle.calls.specs.declared.call.Call.{Call}
+use Rattle.calls.specs.declared.call.Call.the-variants.{Enrol, Submit, Withdraw, Ask}
+use Rattle.calls.specs.declared.call.Reply.{Reply}
+use Rattle.calls.specs.declared.call.Reply.the-variants.{Answered, Reported}
+use Rattle.calls.specs.Checks.{submitChecks, withdrawChecks, enrolChecks, reportChecks, takenFlag}
+
+-- what a call answers, and the area after it
+pub record Acted : Type 0 where
+  pub reply : Reply
+  pub area : List ℕ
+
+abbrev pub acted : Reply → List ℕ → Acted
+acted reply area = record { reply = reply; area = area }
+
+abbrev pub pickActed : Bool → Acted → Acted → Acted
+pickActed true a b = a
+pickActed false a b = b
+
+-- "Every number but 0 comes with zeros in the other fields and changes no byte"
+abbrev pub refused : ℕ → List ℕ → Acted
+refused number area = acted (Answered (refusal number)) area
+
+-- ---- "Enrol (place, dials, capacity): writes kind 1."
+unfoldable pub enrolIn : ℕ → ℕ → List ℕ → Acted
+enrolIn dials capacity area =
+    pickActed (eqb (firstBroken (enrolChecks dials capacity area)) accepted)
+    (acted (Answered (answer accepted 0 (pos 0))) (putMeter area dials capacity))
+    (refused (firstBroken (enrolChecks dials capacity area)) area)
+
+-- ---- "Submit: accepted, the read is written as kind 2 after the standing and withdrawn entries, over a held one. With 19 or 20 it is written
+-- there as kind 4 with its flag." It answers "its flag and a".
+unfoldable pub entryFor : ℕ → Submission → ℕ → Entry
+entryFor kind s flag =
+    record {
+      kind = kind;
+      day = s .day;
+      value = s .value;
+      letter = s .letter;
+      indicator = s .indicator;
+      flag = flag;
+    }
+
+-- the area with the read written after the standing and withdrawn entries
+unfoldable pub written : ℕ → Submission → List ℕ → List ℕ
+written kind s area =
+    putEntry area (entryStart (kept (journalOf area .entries))) (entryFor kind s (takenFlag s (journalOf area)))
+
+-- a: the advance over the last standing read
+unfoldable pub submittedAdvance : Submission → Journal → ℤ
+submittedAdvance s j = advanceOver (j .dials) (s .value) (takenFlag s j) (slotAt (standing (j .entries)) 0)
+
+abbrev pub isVolumeQuery : ℕ → Bool
+isVolumeQuery number = eqb number low || eqb number high
+
+unfoldable pub submitIn : Submission → List ℕ → Acted
+submitIn s area =
+    pickActed (eqb (firstBroken (submitChecks s area)) accepted)
+    (acted
+    (Answered (answer accepted (takenFlag s (journalOf area)) (submittedAdvance s (journalOf area))))
+    (written kindStanding s area))
+    (pickActed (isVolumeQuery (firstBroken (submitChecks s area)))
+    (refused (firstBroken (submitChecks s area)) (written kindHeld s area))
+    (refused (firstBroken (submitChecks s area)) area))
+
+-- ---- "Withdraw (place, day, value): the last standing entry becomes kind 3 in its place and a held entry is zeroed; it answers that read's
+-- flag and its advance negated."
+abbrev pub pickBytes : Bool → List ℕ → List ℕ → List ℕ
+pickBytes true a b = a
+pickBytes false a b = b
+
+unfoldable pub withoutHeld : List Entry → List ℕ → List ℕ
+withoutHeld es area = pickBytes (isThere (heldOf es)) (putEntry area (entryStart (kept es)) zeroEntry) area
+
+unfoldable pub withdrawnIn : List Entry → List ℕ → List ℕ
+withdrawnIn es area = withoutHeld es (set area (entryStart (newestAt es)) kindWithdrawn)
+
+-- flag and negated advance of the last standing read over the one before
+unfoldable pub withdrawnAnswer : ℕ → Slot → Slot → Answer
+withdrawnAnswer n (Read r0) second =
+    answer accepted (r0 .flag) (negℤ (advanceOver n (r0 .value) (r0 .flag) second))
+withdrawnAnswer n Empty second = refusal accepted
+
+unfoldable pub withdrawIn : ℕ → ℕ → List ℕ → Acted
+withdrawIn day value area =
+    pickActed (eqb (firstBroken (withdrawChecks day value area)) accepted)
+    (acted
+    (Answered
+    (withdrawnAnswer
+    (journalOf area .dials)
+    (slotAt (standing (journalOf area .entries)) 0)
+    (slotAt (standing (journalOf area .entries)) 1)))
+    (withdrawnIn (journalOf area .entries) area))
+    (refused (firstBroken (withdrawChecks day value area)) area)
+
+-- ---- "Report (place) answers number, standing reads, flagged among them, and total: last − first + 10^n × flagged, 0 if none stands."
+unfoldable pub flaggedOf : List Entry → ℕ
+flaggedOf ss = length (those isFlagged ss)
+
+unfoldable pub totalOf : ℕ → List Entry → ℤ
+totalOf n [] = pos 0
+totalOf n (s ∷ ss) = advanceOf n (s .value) (flaggedOf (s ∷ ss)) (firstValue (s ∷ ss))
+
+unfoldable pub reportOf : Journal → Report
+reportOf j =
+    record {
+      number = accepted;
+      standing = length (standing (j .entries));
+      flagged = flaggedOf (standing (j .entries));
+      total = totalOf (j .dials) (standing (j .entries));
+    }
+
+unfoldable pub reportIn : List ℕ → Acted
+reportIn area =
+    pickActed (eqb (firstBroken (reportChecks area)) accepted)
+    (acted (Reported (reportOf (journalOf area))) area)
+    (acted (Reported (refusedReport (firstBroken (reportChecks area)))) area)
+
+-- ---- a call on the area that it names
+unfoldable pub act : Call → List ℕ → Acted
+act (Enrol place dials capacity) area = enrolIn dials capacity area
+act (Submit place read) area = submitIn read area
+act (Withdraw place day value) area = withdrawIn day value area
+act (Ask place) area = reportIn area
+
+unfoldable pub placeOf : Call → ℕ
+placeOf (Enrol place dials capacity) = place
+placeOf (Submit place read) = place
+placeOf (Withdraw place day value) = place
+placeOf (Ask place) = place
+
+-- a refusal, in the form of the call's answer
+unfoldable pub refusalOf : Call → ℕ → Reply
+refusalOf (Enrol place dials capacity) number = Answered (refusal number)
+refusalOf (Submit place read) number = Answered (refusal number)
+refusalOf (Withdraw place day value) number = Answered (refusal number)
+refusalOf (Ask place) number = Reported (refusedReport number)
+
+-- ---- a call on the register: what it answers, and the register after it
+pub record Done : Type 0 where
+  pub reply : Reply
+  pub register : List ℕ
+
+abbrev pub done : Reply → List ℕ → Done
+done reply register = record { reply = reply; register = register }
+
+abbrev pub pickDone : Bool → Done → Done → Done
+pickDone true a b = a
+pickDone false a b = b
+
+-- 2: "register length not 32,768"
+unfoldable pub isMisfit : List ℕ → Bool
+isMisfit register = not (eqb (length register) registerBytes)
+
+-- 3: "place above 63"
+unfoldable pub isNoPlace : ℕ → Bool
+isNoPlace place = leb areas place
+
+unfoldable pub onArea : ℕ → Acted → List ℕ → Done
+onArea place after register = done (after .reply) (withArea place (after .area) register)
+
+unfoldable pub step : Call → List ℕ → Done
+step call register =
+    pickDone (isMisfit register)
+    (done (refusalOf call misfit) register)
+    (pickDone (isNoPlace (placeOf call))
+    (done (refusalOf call noMeter) register)
+    (onArea (placeOf call) (act call (areaOf (placeOf call) register)) register))
+
+-- ---- "Journal (place): hands back the meter's part of the caller's own register, from its start to its last entry's end; length 0 where report
+-- refuses."
+unfoldable pub journalLength : ℕ → List ℕ → ℕ
+journalLength place register =
+    numberIf (isMisfit register || isNoPlace place)
+    0
+    (numberIf (eqb (firstBroken (reportChecks (areaOf place register))) accepted)
+    (entryStart (entryCount (areaOf place register)))
+    0)
+
+unfoldable pub journalPart : ℕ → List ℕ → List ℕ
+journalPart place register = take (journalLength place register) (drop (areaBytes * place) register)

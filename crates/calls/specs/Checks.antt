@@ -1,0 +1,185 @@
+-- 01, Calls: the conditions of the table of numbers, and the order of checks of each call.
+use mathlib.Core.Bool.{Bool, true, false, not, _&&_, _||_}
+use mathlib.Core.List.{List, [], _∷_}
+use Prim.Native.Nat.{ℕ}
+use lib.Dec.{eqb, leb, ltb}
+use Rattle.arithmetic.specs.Powers.{tenTo}
+use Rattle.terms.specs.declared.entry.Entry.{Entry}
+use Rattle.terms.specs.declared.entry.Slot.{Slot}
+use Rattle.terms.specs.declared.entry.Slot.the-variants.{Read, Empty}
+use Rattle.terms.specs.declared.entry.Recent.{Recent}
+use Rattle.terms.specs.declared.submission.Submission.{Submission}
+use Rattle.terms.specs.Letter.{letterI, isKnown, isOpening, isFinal}
+use Rattle.terms.specs.Entry.{indicatorNotSet, indicatorTrue, slotAt, recentOf}
+use Rattle.terms.specs.Number.{repeat, noMeter, damaged, missing, content, date, withdrawnRead, readAT, readEH, readBF, backDated, readDF, indicatorOnOpening, noOriginal, full, readEE, readEF, low, high, overCapacity, notStanding, notLast, enrolled, plate}
+use Rattle.terms.specs.Rule.{Rule, rule}
+use Rattle.rules.specs.declared.indicator.Indicated.{Indicated}
+use Rattle.rules.specs.declared.indicator.Indicated.the-variants.{Denied, Unclear, Flag}
+use Rattle.rules.specs.Detection.{detected}
+use Rattle.rules.specs.Indicator.{indicated, indicatedFlag}
+use Rattle.rules.specs.Volume.{isLowVolume, isHighVolume, isOverCapacity}
+use Rattle.journal.specs.Journal.{Journal, journalOf, allZero, maxEntries, standing, withdrawn, kept, heldOf}
+use Rattle.journal.specs.Sound.{any, exists, hasRead, isFinalRead, isPlate, isSound}
+use Rattle.journal.specs.Survey.{onDay}
+
+-- ---- 5 to 8: what is submitted
+-- "value 4,294,967,295, the mark for unpopulated"
+abbrev pub unpopulated : ℕ
+unpopulated = 4294967295
+
+unfoldable pub isMissing : Submission → Bool
+isMissing s = eqb (s .value) unpopulated
+
+-- "unknown type, indicator above 2, re-read above 1, value ≥ 10^n"
+unfoldable pub isBadContent : ℕ → Submission → Bool
+isBadContent n s =
+    not (isKnown (s .letter))
+    || (ltb indicatorTrue (s .indicator) || (ltb 1 (s .reread) || leb (tenTo n) (s .value)))
+
+-- "read day 0 or after the submission day"
+unfoldable pub isBadDate : Submission → Bool
+isBadDate s = eqb (s .day) 0 || ltb (s .submitted) (s .day)
+
+-- "a withdrawn entry has this day and value"
+unfoldable pub isWithdrawnRead : Submission → List Entry → Bool
+isWithdrawnRead s es = any (hasRead (s .day) (s .value)) (withdrawn es)
+
+-- ---- 1, 9, 10, 11: a read of that day stands
+unfoldable pub isOnDay : Slot → Bool
+isOnDay (Read e) = true
+isOnDay Empty = false
+
+-- "a standing read has the same day, type, value and indicator"
+unfoldable pub isRepeat : Submission → Slot → Bool
+isRepeat s (Read e) =
+    eqb (e .letter) (s .letter) && (eqb (e .value) (s .value) && eqb (e .indicator) (s .indicator))
+isRepeat s Empty = false
+
+-- "9 (submitted type I or F)"
+unfoldable pub isATOnDay : Submission → Slot → Bool
+isATOnDay s sameDay = isOnDay sameDay && (eqb (s .letter) letterI || isFinal (s .letter))
+
+-- "standing read of that day, other indicator"
+unfoldable pub isOtherIndicator : Submission → Slot → Bool
+isOtherIndicator s (Read e) = not (eqb (e .indicator) (s .indicator))
+isOtherIndicator s Empty = false
+
+-- ---- 12 to 16
+-- "earlier than the last standing read"
+unfoldable pub isBackDated : Submission → Slot → Bool
+isBackDated s (Read r0) = ltb (s .day) (r0 .day)
+isBackDated s Empty = false
+
+-- "none stands and type not I or O"
+unfoldable pub isUnopened : Submission → List Entry → Bool
+isUnopened s ss = not (exists ss) && not (isOpening (s .letter))
+
+-- "9 (I or O with a read standing, F with an F standing)"
+unfoldable pub isATLater : Submission → List Entry → Bool
+isATLater s ss = isOpening (s .letter) && exists ss || isFinal (s .letter) && any isFinalRead ss
+
+-- "I or O with indicator 1 or 2"
+unfoldable pub isOpeningIndicated : Submission → Bool
+isOpeningIndicated s = isOpening (s .letter) && not (eqb (s .indicator) indicatorNotSet)
+
+-- "re-read 1, and no held read equal in day, value, type, indicator"
+unfoldable pub isHeldEqual : Submission → Slot → Bool
+isHeldEqual s (Read h) =
+    hasRead (s .day) (s .value) h && (eqb (h .letter) (s .letter) && eqb (h .indicator) (s .indicator))
+isHeldEqual s Empty = false
+
+unfoldable pub isUnheldReread : Submission → Slot → Bool
+isUnheldReread s held = eqb (s .reread) 1 && not (isHeldEqual s held)
+
+-- "standing and withdrawn entries number 50"
+unfoldable pub isFull : List Entry → Bool
+isFull es = eqb (kept es) maxEntries
+
+-- ---- 17 to 21, "under Detection" and "under Volume"
+unfoldable pub isDenied : Indicated → Bool
+isDenied Denied = true
+isDenied Unclear = false
+isDenied (Flag f) = false
+
+unfoldable pub isUnclear : Indicated → Bool
+isUnclear Denied = false
+isUnclear Unclear = true
+isUnclear (Flag f) = false
+
+-- what detection and the indicator make of a submission
+unfoldable pub indicatedIn : Submission → Journal → Indicated
+indicatedIn s j = indicated (detected (j .dials) s (recentOf (standing (j .entries)))) (s .indicator)
+
+-- ---- 22, 23: withdrawal
+-- "no standing read of that day and value"
+unfoldable pub isNotStanding : ℕ → ℕ → List Entry → Bool
+isNotStanding day value ss = not (any (hasRead day value) ss)
+
+-- "it stands, but not last"
+unfoldable pub isNotLast : ℕ → ℕ → Slot → Bool
+isNotLast day value (Read r0) = not (hasRead day value r0)
+isNotLast day value Empty = true
+
+-- ---- THE ORDER OF CHECKS. Every call checks 2 first, and then 3 for a place above 63.
+
+-- "area all zero", "area neither zero nor sound", and then what a call asks of the journal
+abbrev pub withJournal : (Journal → List Rule) → List ℕ → List Rule
+withJournal rules area = rule noMeter (allZero area) ∷ rule damaged (not (isSound area)) ∷ rules (journalOf area)
+
+-- "Submit checks 2 to 8; then, if a read of that day stands, 1, 9 (submitted type I or F), 10, 11; then 12, 13, 9 (I or O with a read standing,
+-- F with an F standing), 14 to 21."
+module _ (s : Submission) (j : Journal) where
+  abbrev pub sameDay : Slot
+  sameDay = onDay (s .day) (standing (j .entries))
+
+  abbrev pub recent : Recent
+  recent = recentOf (standing (j .entries))
+
+  -- the flag that the read is taken with
+  abbrev pub takenFlag : ℕ
+  takenFlag = indicatedFlag (indicatedIn s j)
+
+  unfoldable pub submitRules : List Rule
+  submitRules =
+      rule missing (isMissing s)
+      ∷ rule content (isBadContent (j .dials) s)
+      ∷ rule date (isBadDate s)
+      ∷ rule withdrawnRead (isWithdrawnRead s (j .entries))
+      ∷ rule repeat (isRepeat s sameDay)
+      ∷ rule readAT (isATOnDay s sameDay)
+      ∷ rule readEH (isOtherIndicator s sameDay)
+      ∷ rule readBF (isOnDay sameDay)
+      ∷ rule backDated (isBackDated s (recent .last))
+      ∷ rule readDF (isUnopened s (standing (j .entries)))
+      ∷ rule readAT (isATLater s (standing (j .entries)))
+      ∷ rule indicatorOnOpening (isOpeningIndicated s)
+      ∷ rule noOriginal (isUnheldReread s (heldOf (j .entries)))
+      ∷ rule full (isFull (j .entries))
+      ∷ rule readEE (isDenied (indicatedIn s j))
+      ∷ rule readEF (isUnclear (indicatedIn s j))
+      ∷ rule low (isLowVolume (j .dials) s takenFlag recent)
+      ∷ rule high (isHighVolume (j .dials) s takenFlag recent)
+      ∷ rule overCapacity (isOverCapacity (j .dials) (j .capacity) s takenFlag recent)
+      ∷ []
+
+unfoldable pub submitChecks : Submission → List ℕ → List Rule
+submitChecks s area = withJournal (submitRules s) area
+
+-- "Withdraw: 2, 3, 4, 22, 23."
+abbrev pub withdrawRules : ℕ → ℕ → Journal → List Rule
+withdrawRules day value j =
+    rule notStanding (isNotStanding day value (standing (j .entries)))
+    ∷ rule notLast (isNotLast day value (slotAt (standing (j .entries)) 0))
+    ∷ []
+
+unfoldable pub withdrawChecks : ℕ → ℕ → List ℕ → List Rule
+withdrawChecks day value area = withJournal (withdrawRules day value) area
+
+-- "Enrol: 2, 3, 24, 25."
+unfoldable pub enrolChecks : ℕ → ℕ → List ℕ → List Rule
+enrolChecks dials capacity area =
+    rule enrolled (not (allZero area)) ∷ rule plate (not (isPlate dials capacity)) ∷ []
+
+-- "Report: 2, 3, 4."
+unfoldable pub reportChecks : List ℕ → List Rule
+reportChecks area = withJournal (λ j. []) area

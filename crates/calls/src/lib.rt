@@ -1,0 +1,2 @@
+// The calls of document 01.
+pub mod call;

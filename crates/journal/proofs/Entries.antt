@@ -1,0 +1,63 @@
+-- What the loops over an area's entries share: one entry more, and how many there are.
+use mathlib.Core.Path.{_≡_, refl, ap}
+use mathlib.Core.Bool.{Bool, true, false, _&&_, _||_}
+use mathlib.Core.List.{List, [], _∷_}
+use Prim.Native.Nat.{ℕ, zero, suc, _+_, _≤_}
+use native.Mathlib.Numerals.{add-one}
+use native.Mathlib.Omega.{arith}
+use lib.Dec.{eqb}
+use lib.ListN.{length}
+use Rattle.terms.specs.declared.entry.Entry.{Entry}
+use Rattle.terms.specs.Entry.{keepIf, those}
+use Rattle.terms.specs.Rule.{numberIf}
+use Rattle.register.specs.Bytes.{byteAt}
+use Rattle.register.specs.Entries.{entryStart, entryAt}
+use Rattle.journal.specs.Journal.{maxEntries, entriesTo, countFrom, entryCount}
+use Rattle.journal.specs.Sound.{any}
+
+-- one entry more
+module _ (k : ℕ) (a : List ℕ) where
+  pub one-more : entriesTo (k + 1) a ≡ entryAt a (entryStart k) ∷ entriesTo k a
+  unfolding entriesTo
+  one-more = ap (λ (n : ℕ). entriesTo n a) (add-one k)
+
+  -- of those that pass a test: the entry read is e, and b is what the test said of it
+  pub those-more : (test : Entry → Bool) {e : Entry} {b : Bool} → e ≡ entryAt a (entryStart k) → b ≡ test e → those test (entriesTo (k + 1) a) ≡ keepIf b e (those test (entriesTo k a))
+  unfolding those
+  those-more test e b = rw (one-more, ← e, ← b)
+
+pub any-kept : (p : Entry → Bool) (b : Bool) (e : Entry) (es : List Entry) → any p (keepIf b e es) ≡ (b && p e) || any p es
+unfolding any
+any-kept p true e es = refl
+any-kept p false e es = refl
+
+-- how many entries there are
+pub length-entries : (k : ℕ) (a : List ℕ) → length (entriesTo k a) ≡ k
+unfolding entriesTo
+length-entries zero a = refl
+length-entries (suc k) a = ap suc (length-entries k a)
+
+kept-at-most : (b : Bool) (e : Entry) (es : List Entry) → length (keepIf b e es) ≤ suc (length es)
+kept-at-most true e es = omega arith
+kept-at-most false e es = omega arith
+
+pub those-at-most : (test : Entry → Bool) (es : List Entry) → length (those test es) ≤ length es
+unfolding those
+those-at-most test [] = omega arith
+those-at-most test (e ∷ es) = omega (arith, those-at-most test es, kept-at-most (test e) e (those test es))
+
+number-at-most : (b : Bool) {m n most : ℕ} → m ≤ most → n ≤ most → numberIf b m n ≤ most
+number-at-most true h g = h
+number-at-most false h g = g
+
+count-from-at-most : (left k : ℕ) (a : List ℕ) → countFrom left k a ≤ k + left
+unfolding countFrom
+count-from-at-most zero k a = omega arith
+count-from-at-most (suc left) k a =
+    let stops : k ≤ k + suc left = omega arith in
+    let goes-on : countFrom left (suc k) a ≤ k + suc left = omega (arith, count-from-at-most left (suc k) a) in
+    number-at-most (eqb (byteAt a (entryStart k)) 0) stops goes-on
+
+pub count-at-most : (a : List ℕ) → entryCount a ≤ maxEntries
+unfolding entryCount
+count-at-most a = count-from-at-most maxEntries 0 a

@@ -1,0 +1,110 @@
+-- Whether one more entry keeps the order: each clause over the longer list is what the entry adds and the clause over the shorter.
+use mathlib.Core.Path.{_≡_, refl, ap}
+use mathlib.Core.Bool.{Bool, true, false, not, _&&_, _||_, and-assoc, and-comm, and-true, and-false, and-eq-true-iff}
+use mathlib.Core.List.{List, [], _∷_}
+use Prim.Native.Nat.{ℕ, _<_}
+use native.Mathlib.Omega.{arith}
+use borrow.Author.Tests.{ltb-true, lt-ltb}
+use Rattle.terms.specs.declared.entry.Entry.{Entry}
+use Rattle.terms.specs.declared.entry.Slot.the-variants.{Empty}
+use Rattle.terms.specs.Entry.{isStanding, isHeld, keepIf, those, slotAt}
+use Rattle.terms.specs.Letter.{isOpening, isHoldable}
+use Rattle.journal.specs.Journal.{standing, slotIf, heldOf}
+use Rattle.journal.specs.Sound.{every, any, isRead, daysRise, opensRight, isFinalRead, hasOneFinal, isLater, exists, mayBeHeld, isHeldRight, areInOrder}
+use Rattle.journal.specs.Survey.{isThere, isAfter, mayStand, mayFollow}
+
+-- ---- conjunctions
+and-left : (x y z : Bool) → x && (y && z) ≡ y && (x && z)
+and-left true y z = refl
+and-left false true z = refl
+and-left false false z = refl
+
+absorb : (x y : Bool) → (x ≡ true → y ≡ true) → x && y ≡ x
+absorb true y h = h refl
+absorb false y h = refl
+
+both : (x y : Bool) → x && y ≡ true → (x ≡ true) × (y ≡ true)
+both x y = and-eq-true-iff x y .0
+
+-- ---- what an entry adds to the standing reads before it, if it stands, and if it is held
+abbrev noSecondFinal : Entry → List Entry → Bool
+noSecondFinal e ss = not (isFinalRead e && any isFinalRead ss)
+
+abbrev standsRight : Entry → List Entry → Bool
+standsRight e ss = mayStand e (slotAt ss 0) && noSecondFinal e ss
+
+abbrev holdsRight : Entry → List Entry → Bool
+holdsRight e ss = isHoldable (e .letter) && (isAfter e (slotAt ss 0) && noSecondFinal e ss)
+
+-- ---- the clauses over the standing reads
+abbrev rightly : List Entry → Bool
+rightly ss = daysRise ss && (opensRight ss && hasOneFinal ss)
+
+deal : (l d o p f g : Bool) → (l && d) && ((o && p) && (f && g)) ≡ ((l && o) && f) && (d && (p && g))
+deal l d o p f g = simp (and-assoc, and-left)
+
+stand-more : (b : Bool) (e : Entry) (ss : List Entry) → rightly (keepIf b e ss) ≡ (not b || standsRight e ss) && rightly ss
+unfolding daysRise opensRight hasOneFinal mayStand slotAt any
+stand-more false e ss = refl
+stand-more true e [] = simp (and-assoc, and-true)
+stand-more true e (s ∷ ss) =
+    let r = s ∷ ss in
+    deal (isLater e s) (daysRise r) (not (isOpening (e .letter))) (opensRight r) (noSecondFinal e r) (hasOneFinal r)
+
+-- ---- the held read: later than the newest of a rising list is later than every one
+module _ (e : Entry) where
+  later-all : (s : Entry) (ss : List Entry) → daysRise (s ∷ ss) ≡ true → isLater e s ≡ true → every (isLater e) ss ≡ true
+  unfolding daysRise every
+  later-all s [] d l = refl
+  later-all s (t ∷ ss) d l =
+      let d' = both (isLater s t) (daysRise (t ∷ ss)) d in
+      let a : t .day < s .day = ltb-true _ _ (d' .0) in
+      let b : s .day < e .day = ltb-true _ _ l in
+      let m : isLater e t ≡ true = lt-ltb (t .day) (e .day) (omega arith) in
+      rw m (later-all t ss (d' .1) m)
+
+  after-newest : (ss : List Entry) → daysRise ss ≡ true → exists ss && every (isLater e) ss ≡ isAfter e (slotAt ss 0)
+  unfolding exists every isAfter slotAt
+  after-newest [] d = refl
+  after-newest (s ∷ ss) d = absorb (isLater e s) (every (isLater e) ss) (later-all s ss d)
+
+  held-right : (ss : List Entry) → daysRise ss ≡ true → mayBeHeld e ss ≡ holdsRight e ss
+  unfolding mayBeHeld
+  held-right ss d = rw (← and-assoc (exists ss) (every (isLater e) ss) (noSecondFinal e ss), after-newest ss d)
+
+-- none of the entries is held: the newest is not, and those before it are as they should be
+no-held : (e : Entry) (held others right : Bool) → not (held || others) ≡ not (isThere (slotIf held e Empty)) && (not others && (not held || right))
+unfolding isThere
+no-held e true o r = refl
+no-held e false true r = refl
+no-held e false false r = refl
+
+none-held : (es : List Entry) → not (any isHeld es) ≡ not (isThere (heldOf es)) && isHeldRight es
+unfolding any heldOf isThere isHeldRight
+none-held [] = refl
+none-held (e ∷ es) = no-held e (isHeld e) (any isHeld es) (mayBeHeld e (standing es))
+
+-- ---- all the clauses
+in-order : (limit : ℕ) (es : List Entry) → areInOrder limit es ≡ every (isRead limit) es && (rightly (standing es) && isHeldRight es)
+unfolding areInOrder
+in-order limit es = simp and-assoc
+
+combine : (r a s p t h w v : Bool) → (p ≡ true → w ≡ v) → (r && a) && ((s && p) && ((t && h) && w)) ≡ (r && (t && (s && v))) && (a && (p && h))
+combine r a s true t h w v q = rw (q refl) (simp (and-assoc, and-true, and-comm, and-left))
+combine r a s false t h w v q = simp (and-assoc, and-false)
+
+pub in-order-more : (limit : ℕ) (e : Entry) (es : List Entry) → areInOrder limit (e ∷ es) ≡ mayFollow limit e (slotAt (standing es) 0) (heldOf es) (any isFinalRead (standing es)) && areInOrder limit es
+unfolding mayFollow every those isHeldRight
+in-order-more limit e es =
+    let ss = standing es in
+    rw (in-order limit (e ∷ es), in-order limit es, stand-more (isStanding e) e ss, none-held es)
+    (combine
+    (isRead limit e)
+    (every (isRead limit) es)
+    (not (isStanding e) || standsRight e ss)
+    (rightly ss)
+    (not (isThere (heldOf es)))
+    (isHeldRight es)
+    (not (isHeld e) || mayBeHeld e ss)
+    (not (isHeld e) || holdsRight e ss)
+    (λ p. ap (λ (x : Bool). not (isHeld e) || x) (held-right e ss (both (daysRise ss) (opensRight ss && hasOneFinal ss) p .0))))

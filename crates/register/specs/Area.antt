@@ -1,0 +1,21 @@
+-- 01, The register: "32,768 lent bytes: 64 areas of 512. The area of place p (one byte, 0 to 63) starts at 512 × p."
+use mathlib.Core.List.{List, _++_}
+use Prim.Native.Nat.{ℕ, _+_, _*_}
+use lib.ListN.{take, drop}
+
+abbrev pub areaBytes : ℕ
+areaBytes = 512
+
+abbrev pub areas : ℕ
+areas = 64
+
+abbrev pub registerBytes : ℕ
+registerBytes = areas * areaBytes
+
+-- the area of place p
+unfoldable pub areaOf : ℕ → List ℕ → List ℕ
+areaOf p register = take areaBytes (drop (areaBytes * p) register)
+
+-- the register with other bytes in the area of place p
+unfoldable pub withArea : ℕ → List ℕ → List ℕ → List ℕ
+withArea p area register = take (areaBytes * p) register ++ (area ++ drop (areaBytes * p + areaBytes) register)

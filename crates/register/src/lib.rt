@@ -1,0 +1,3 @@
+// The bytes of the register: areas, entries, and how they are written. What the bytes mean is the journal's to say.
+pub mod area;
+pub mod write;

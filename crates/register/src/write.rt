@@ -1,0 +1,66 @@
+// Writing numbers and entries into an area. A byte past the end of what is lent is not written.
+ghost use mathlib.Core.Path.{_≡_};
+ghost use Prim.Native.Nat.{_<_};
+ghost use lib.ListN.{set};
+ghost use Rattle.register.specs.Bytes.{putWord, putLong};
+ghost use Rattle.register.specs.Entries.{putMeter, putEntry, entryStart};
+use crate::area::Layout;
+use terms::entry::Entry;
+use terms::entry::Kind;
+
+pub fn put_byte(bytes: &mut [u8], i: usize, v: u8)
+    ensures { λ _. ⌜ now (bytes .exit) ≡ set (now (bytes .entry)) i v ⌝ }
+{
+    if i < bytes.len() {
+        bytes[i] = v;
+    }
+}
+
+fn put_word(bytes: &mut [u8], i: usize, v: u16)
+    requires { ⌜ i < 65536 ⌝ }
+    ensures { λ _. ⌜ now (bytes .exit) ≡ putWord (now (bytes .entry)) i v ⌝ }
+{
+    put_byte(bytes, i, (v % 256) as u8);
+    put_byte(bytes, i + 1, (v / 256) as u8);
+}
+
+fn put_long(bytes: &mut [u8], i: usize, v: u32)
+    requires { ⌜ i < 65000 ⌝ }
+    ensures { λ _. ⌜ now (bytes .exit) ≡ putLong (now (bytes .entry)) i v ⌝ }
+{
+    put_word(bytes, i, (v % 65536) as u16);
+    put_word(bytes, i + 2, (v / 65536) as u16);
+}
+
+// The meter's entry, first in its area.
+pub fn put_meter(area: &mut [u8], dials: u8, capacity: u32)
+    ensures { λ _. ⌜ now (area .exit) ≡ putMeter (now (area .entry)) dials capacity ⌝ }
+{
+    put_byte(area, 0, Kind::METER);
+    put_byte(area, 1, dials);
+    put_long(area, 2, capacity);
+}
+
+// An entry after k others.
+pub fn put_entry(area: &mut [u8], k: u8, e: Entry)
+    ensures { λ _. ⌜ now (area .exit) ≡ putEntry (now (area .entry)) (entryStart k) e ⌝ }
+{
+    let at = Layout::METER_BYTES + Layout::ENTRY_BYTES * (k as usize);
+    put_byte(area, at, e.kind);
+    put_word(area, at + 1, e.day);
+    put_long(area, at + 3, e.value);
+    put_byte(area, at + 7, e.letter);
+    put_byte(area, at + 8, e.indicator);
+    put_byte(area, at + 9, e.flag);
+}
+
+// Another kind for the entry after k others.
+pub fn put_kind(area: &mut [u8], k: u8, kind: u8)
+    ensures { λ _. ⌜ now (area .exit) ≡ set (now (area .entry)) (entryStart k) kind ⌝ }
+{
+    put_byte(
+        area,
+        Layout::METER_BYTES + Layout::ENTRY_BYTES * (k as usize),
+        kind,
+    );
+}

@@ -1,0 +1,39 @@
+-- Both products are of advances, so they fit, and the test sees the definition's.
+use native.Mathlib.Omega.{arith}
+use Rattle.arithmetic.specs.Advance.{advanceOf}
+use Rattle.rules.specs.Volume.{lastAdvance, isHigh}
+use Rattle.rules.proofs.Laws.{AdvanceWord, advance-word, word-within, scaled-reads}
+use borrow.Author.Needs.{needs}
+use Rattle.rules.proofs.volume.is_high.Statement.{statement}
+use Rattle.rules.proofs.volume.is_high.Tie as tie
+
+module _ (c : tie.After-advance2) where
+  current : AdvanceWord (c .before .advance .result) (advanceOf (c .before .before .args .n) (c .before .before .args .s .value) (c .before .before .args .flag) (c .before .before .args .r0 .value))
+  current = advance-word _ _ _ _ (c .before .advance .ensures) (omega arith) (omega arith) (omega arith)
+
+  earlier : AdvanceWord (c .advance2 .result) (lastAdvance (c .before .before .args .n) (c .before .before .args .r0) (c .before .before .args .r1))
+  earlier = advance-word _ _ _ _ (c .advance2 .ensures) (omega arith) (omega arith) (omega arith)
+
+advance-requires : tie.Need-advance-requires
+advance-requires c κs = search needs
+
+advance-requires-2 : tie.Need-advance-requires-2
+advance-requires-2 c κs = search needs
+
+scaled-requires : tie.Need-scaled-requires
+scaled-requires c κs = word-within (earlier c)
+
+scaled-requires-2 : tie.Need-scaled-requires-2
+scaled-requires-2 c κs = word-within (current (c .before))
+
+returns : tie.Need-returns
+unfolding isHigh
+returns c = rw (
+  scaled-reads _ _ _ (c .before .scaled .ok) (c .before .scaled .ensures) (earlier (c .before .before)),
+  scaled-reads _ _ _ (c .scaled2 .ok) (c .scaled2 .ensures) (current (c .before .before)),
+)
+
+pub is-high-spec : {M : Type 1} → statement M
+is-high-spec =
+    tie.close
+    (tie.spec advance-requires advance-requires-2 scaled-requires scaled-requires-2 returns)

@@ -1,0 +1,5 @@
+pub mod Settings
+pub mod Detection
+pub mod Indicator
+pub mod Volume
+pub mod Edges

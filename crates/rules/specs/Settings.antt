@@ -1,0 +1,35 @@
+-- 01, Detection: "The detection settings (1000, 90, 10, 20, 200, 10) are constants that belong to one named set."
+use Prim.Native.Nat.{ℕ}
+
+-- a step back by less than this is small
+abbrev pub stepBack : ℕ
+stepBack = 1000
+
+-- the marks near a turn of the dials, in hundredths of the dials' range
+abbrev pub highMark : ℕ
+highMark = 90
+
+abbrev pub lowMark : ℕ
+lowMark = 10
+
+-- the percentages between which a rate is like the one before
+abbrev pub leastPercent : ℕ
+leastPercent = 20
+
+abbrev pub mostPercent : ℕ
+mostPercent = 200
+
+-- an advance is small below one part in this many of the dials' range
+abbrev pub fraction : ℕ
+fraction = 10
+
+-- what percentages are parts of
+abbrev pub wholePercent : ℕ
+wholePercent = 100
+
+-- 01, Volume: 003's limits, in percent of the advance before
+abbrev pub lowPercent : ℕ
+lowPercent = 20
+
+abbrev pub highPercent : ℕ
+highPercent = 200

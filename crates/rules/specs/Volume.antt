@@ -1,0 +1,94 @@
+-- 01, Volume. R1 and D1 are the submitted value and day, R0 and R-1 the last two standing reads, D0 and D-1 their days.
+use mathlib.Core.Bool.{Bool, true, false, not, _&&_}
+use mathlib.Core.List.{List, [], _∷_}
+use Prim.Native.Nat.{ℕ}
+use lib.Dec.{eqb}
+use lib.IntN.{ℤ, pos, _-ℤ_, _*ℤ_}
+use lib.Signed.{ltZ}
+use Rattle.arithmetic.specs.Advance.{advanceOf}
+use Rattle.terms.specs.declared.entry.Entry.{Entry}
+use Rattle.terms.specs.declared.entry.Slot.{Slot}
+use Rattle.terms.specs.declared.entry.Slot.the-variants.{Read, Empty}
+use Rattle.terms.specs.declared.entry.Recent.{Recent}
+use Rattle.terms.specs.declared.submission.Submission.{Submission}
+use Rattle.terms.specs.Letter.{isUnchecked}
+use Rattle.terms.specs.Number.{low, high, overCapacity}
+use Rattle.terms.specs.Rule.{rule, firstBroken}
+use Rattle.rules.specs.Settings.{wholePercent, lowPercent, highPercent}
+use Rattle.rules.specs.Detection.{scaledOf}
+
+-- "The advance a is a signed whole number, R1 − R0 + flag × 10^n, and 0 where no read stands"
+unfoldable pub advanceOver : ℕ → ℕ → ℕ → Slot → ℤ
+advanceOver n value flag (Read r0) = advanceOf n value flag (r0 .value)
+advanceOver n value flag Empty = pos 0
+
+-- "I, O and Y have no volume check."
+unfoldable pub hasVolumeCheck : Submission → Bool
+hasVolumeCheck s = not (isUnchecked (s .letter))
+
+-- "Threshold, not for a re-read"
+unfoldable pub hasThreshold : Submission → Bool
+hasThreshold s = hasVolumeCheck s && not (eqb (s .reread) 1)
+
+-- p: "the last standing read's advance over the one before, its flag counted"
+abbrev pub lastAdvance : ℕ → Entry → Entry → ℤ
+lastAdvance n r0 r-1 = advanceOf n (r0 .value) (r0 .flag) (r-1 .value)
+
+-- "100 × a × e < 20 × p × d", with d = D1 − D0 and e the days of p, D0 − D-1
+unfoldable pub isLow : ℕ → Submission → ℕ → Entry → Entry → Bool
+isLow n s flag r0 r-1 =
+    ltZ
+    (scaledOf wholePercent (advanceOf n (s .value) flag (r0 .value)) (r0 .day) (r-1 .day))
+    (scaledOf lowPercent (lastAdvance n r0 r-1) (s .day) (r0 .day))
+
+-- "100 × a × e > 200 × p × d"
+unfoldable pub isHigh : ℕ → Submission → ℕ → Entry → Entry → Bool
+isHigh n s flag r0 r-1 =
+    ltZ
+    (scaledOf highPercent (lastAdvance n r0 r-1) (s .day) (r0 .day))
+    (scaledOf wholePercent (advanceOf n (s .value) flag (r0 .value)) (r0 .day) (r-1 .day))
+
+-- "If that exists and p > 0"
+unfoldable pub hasAdvanced : ℕ → Entry → Entry → Bool
+hasAdvanced n r0 r-1 = ltZ (pos 0) (lastAdvance n r0 r-1)
+
+unfoldable pub isBelowThreshold : ℕ → Submission → ℕ → Slot → Slot → Bool
+isBelowThreshold n s flag (Read r0) (Read r-1) = hasAdvanced n r0 r-1 && isLow n s flag r0 r-1
+isBelowThreshold n s flag (Read r0) Empty = false
+isBelowThreshold n s flag Empty r = false
+
+unfoldable pub isAboveThreshold : ℕ → Submission → ℕ → Slot → Slot → Bool
+isAboveThreshold n s flag (Read r0) (Read r-1) = hasAdvanced n r0 r-1 && isHigh n s flag r0 r-1
+isAboveThreshold n s flag (Read r0) Empty = false
+isAboveThreshold n s flag Empty r = false
+
+-- the days of the year of a read's day: 365 whatever the year
+unfoldable pub daysInYear : ℕ → ℕ
+daysInYear day = 365
+
+-- "Capacity: passes if a × 365 < capacity × d, else 21." Where no read stands there is no d, and nothing to pass.
+unfoldable pub isWithinCapacity : ℕ → ℕ → Submission → ℕ → Slot → Bool
+isWithinCapacity n capacity s flag (Read r0) =
+    ltZ
+    (advanceOf n (s .value) flag (r0 .value) *ℤ pos (daysInYear (s .day)))
+    (pos capacity *ℤ (pos (s .day) -ℤ pos (r0 .day)))
+isWithinCapacity n capacity s flag Empty = true
+
+-- 19, 20 and 21 for a read that is taken with this flag
+unfoldable pub isLowVolume : ℕ → Submission → ℕ → Recent → Bool
+isLowVolume n s flag recent = hasThreshold s && isBelowThreshold n s flag (recent .last) (recent .second)
+
+unfoldable pub isHighVolume : ℕ → Submission → ℕ → Recent → Bool
+isHighVolume n s flag recent = hasThreshold s && isAboveThreshold n s flag (recent .last) (recent .second)
+
+unfoldable pub isOverCapacity : ℕ → ℕ → Submission → ℕ → Recent → Bool
+isOverCapacity n capacity s flag recent =
+    hasVolumeCheck s && not (isWithinCapacity n capacity s flag (recent .last))
+
+unfoldable pub volumeNumber : ℕ → ℕ → Submission → ℕ → Recent → ℕ
+volumeNumber n capacity s flag recent =
+    firstBroken
+    (rule low (isLowVolume n s flag recent)
+    ∷ rule high (isHighVolume n s flag recent)
+    ∷ rule overCapacity (isOverCapacity n capacity s flag recent)
+    ∷ [])

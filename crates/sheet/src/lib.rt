@@ -1,0 +1,2 @@
+// The day sheet: a list of calls as bytes.
+pub mod split;

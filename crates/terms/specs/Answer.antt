@@ -1,0 +1,15 @@
+-- 01, Calls: "Each answers number, flag, advance"; "Report (place) answers number, standing reads, flagged among them, and total".
+use Prim.Native.Nat.{ℕ}
+use lib.IntN.{ℤ, pos}
+use Rattle.terms.specs.declared.answer.Answer.{Answer}
+use Rattle.terms.specs.declared.answer.Report.{Report}
+
+abbrev pub answer : ℕ → ℕ → ℤ → Answer
+answer number flag advance = record { number = number; flag = flag; advance = advance }
+
+-- "Every number but 0 comes with zeros in the other fields"
+abbrev pub refusal : ℕ → Answer
+refusal number = answer number 0 (pos 0)
+
+abbrev pub refusedReport : ℕ → Report
+refusedReport number = record { number = number; standing = 0; flagged = 0; total = pos 0 }

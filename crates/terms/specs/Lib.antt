@@ -1,0 +1,5 @@
+pub mod Letter
+pub mod Entry
+pub mod Number
+pub mod Answer
+pub mod Rule

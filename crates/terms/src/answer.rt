@@ -1,0 +1,40 @@
+// What the calls answer.
+ghost use mathlib.Core.Path.{_≡_};
+ghost use Rattle.terms.specs.Answer.{refusal, refusedReport};
+
+// An enrolment, a submission or a withdrawal.
+pub struct Answer {
+    pub number: u8,
+    pub flag: u8,
+    pub advance: i64,
+}
+
+// A report.
+pub struct Report {
+    pub number: u8,
+    pub standing: u8,
+    pub flagged: u8,
+    pub total: i64,
+}
+
+// A number with zeros in the other fields.
+pub fn refuse(number: u8) -> Answer
+    ensures { λ r. ⌜ r ≡ refusal number ⌝ }
+{
+    Answer {
+        number,
+        flag: 0,
+        advance: 0,
+    }
+}
+
+pub fn refuse_report(number: u8) -> Report
+    ensures { λ r. ⌜ r ≡ refusedReport number ⌝ }
+{
+    Report {
+        number,
+        standing: 0,
+        flagged: 0,
+        total: 0,
+    }
+}
