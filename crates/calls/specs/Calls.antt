@@ -15,16 +15,18 @@ use Rattle.terms.specs.declared.submission.Submission.{Submission}
 use Rattle.terms.specs.Answer.{answer, refusal, refusedReport}
 use Rattle.terms.specs.Entry.{kindStanding, kindWithdrawn, kindHeld, slotAt, those}
 use Rattle.terms.specs.Number.{accepted, misfit, noMeter, low, high}
-use Rattle.terms.specs.Rule.{firstBroken, numberIf}
+use Rattle.terms.specs.Rule.{rule, firstBroken, numberIf}
 use Rattle.rules.specs.Volume.{advanceOver}
 use Rattle.register.specs.Area.{areaBytes, areas, registerBytes, areaOf, withArea}
 use Rattle.register.specs.Entries.{entryStart, putMeter, putEntry, zeroEntry}
 use Rattle.journal.specs.Journal.{Journal, journalOf, entryCount, standing, kept, heldOf}
-use Rattle.journal.specs.Survey.{isFlagged, isThere, firstValue, newestAt}
+use Rattle.journal.specs.Survey.{isFlagged, isThere, firstValue, newestAt, surveyOf}
 use Rattle.calls.specs.declared.call.Call.{Call}
 use Rattle.calls.specs.declared.call.Call.the-variants.{Enrol, Submit, Withdraw, Ask}
 use Rattle.calls.specs.declared.call.Reply.{Reply}
 use Rattle.calls.specs.declared.call.Reply.the-variants.{Answered, Reported}
+use Rattle.calls.specs.declared.withdraw.Decided.{Decided}
+use Rattle.calls.specs.declared.withdraw.Decided.the-variants.{Refused, Taken}
 use Rattle.calls.specs.Checks.{submitChecks, withdrawChecks, enrolChecks, reportChecks, takenFlag}
 
 -- what a call answers, and the area after it
@@ -91,17 +93,32 @@ abbrev pub pickBytes : Bool → List ℕ → List ℕ → List ℕ
 pickBytes true a b = a
 pickBytes false a b = b
 
-unfoldable pub withoutHeld : List Entry → List ℕ → List ℕ
-withoutHeld es area = pickBytes (isThere (heldOf es)) (putEntry area (entryStart (kept es)) zeroEntry) area
+-- the area with the entry after `newest` others withdrawn, and the one after `kept` others zeroed if a read is held
+unfoldable pub withdrawnBytes : ℕ → ℕ → Bool → List ℕ → List ℕ
+withdrawnBytes newest kept held area =
+    pickBytes held
+    (putEntry (set area (entryStart newest) kindWithdrawn) (entryStart kept) zeroEntry)
+    (set area (entryStart newest) kindWithdrawn)
 
-unfoldable pub withdrawnIn : List Entry → List ℕ → List ℕ
-withdrawnIn es area = withoutHeld es (set area (entryStart (newestAt es)) kindWithdrawn)
+abbrev pub withdrawnIn : List Entry → List ℕ → List ℕ
+withdrawnIn es area = withdrawnBytes (newestAt es) (kept es) (isThere (heldOf es)) area
 
 -- flag and negated advance of the last standing read over the one before
 unfoldable pub withdrawnAnswer : ℕ → Slot → Slot → Answer
 withdrawnAnswer n (Read r0) second =
     answer accepted (r0 .flag) (negℤ (advanceOver n (r0 .value) (r0 .flag) second))
 withdrawnAnswer n Empty second = refusal accepted
+
+abbrev pub pickDecided : Bool → Decided → Decided → Decided
+pickDecided true a b = a
+pickDecided false a b = b
+
+-- the decision apart from the writing
+unfoldable pub withdrawDecided : ℕ → ℕ → List ℕ → Decided
+withdrawDecided day value area =
+    pickDecided (eqb (firstBroken (withdrawChecks day value area)) accepted)
+    (Taken (surveyOf day value (journalOf area)))
+    (Refused (firstBroken (withdrawChecks day value area)))
 
 unfoldable pub withdrawIn : ℕ → ℕ → List ℕ → Acted
 withdrawIn day value area =
@@ -178,26 +195,29 @@ isMisfit register = not (eqb (length register) registerBytes)
 unfoldable pub isNoPlace : ℕ → Bool
 isNoPlace place = leb areas place
 
+-- what every call checks first
+unfoldable pub placeNumber : ℕ → List ℕ → ℕ
+placeNumber place register =
+    firstBroken (rule misfit (isMisfit register) ∷ rule noMeter (isNoPlace place) ∷ [])
+
 unfoldable pub onArea : ℕ → Acted → List ℕ → Done
 onArea place after register = done (after .reply) (withArea place (after .area) register)
 
 unfoldable pub step : Call → List ℕ → Done
 step call register =
-    pickDone (isMisfit register)
-    (done (refusalOf call misfit) register)
-    (pickDone (isNoPlace (placeOf call))
-    (done (refusalOf call noMeter) register)
-    (onArea (placeOf call) (act call (areaOf (placeOf call) register)) register))
+    pickDone (eqb (placeNumber (placeOf call) register) accepted)
+    (onArea (placeOf call) (act call (areaOf (placeOf call) register)) register)
+    (done (refusalOf call (placeNumber (placeOf call) register)) register)
 
 -- ---- "Journal (place): hands back the meter's part of the caller's own register, from its start to its last entry's end; length 0 where report
 -- refuses."
 unfoldable pub journalLength : ℕ → List ℕ → ℕ
 journalLength place register =
-    numberIf (isMisfit register || isNoPlace place)
-    0
+    numberIf (eqb (placeNumber place register) accepted)
     (numberIf (eqb (firstBroken (reportChecks (areaOf place register))) accepted)
     (entryStart (entryCount (areaOf place register)))
     0)
+    0
 
 unfoldable pub journalPart : ℕ → List ℕ → List ℕ
 journalPart place register = take (journalLength place register) (drop (areaBytes * place) register)

@@ -20,7 +20,7 @@ use Rattle.rules.specs.Indicator.{indicated, indicatedFlag}
 use Rattle.rules.specs.Volume.{isLowVolume, isHighVolume, isOverCapacity}
 use Rattle.journal.specs.Journal.{Journal, journalOf, allZero, maxEntries, standing, withdrawn, kept, heldOf}
 use Rattle.journal.specs.Sound.{any, exists, hasRead, isFinalRead, isPlate, isSound}
-use Rattle.journal.specs.Survey.{onDay}
+use Rattle.journal.specs.Survey.{isThere, onDay}
 
 -- ---- 5 to 8: what is submitted
 -- "value 4,294,967,295, the mark for unpopulated"
@@ -44,11 +44,7 @@ isBadDate s = eqb (s .day) 0 || ltb (s .submitted) (s .day)
 unfoldable pub isWithdrawnRead : Submission → List Entry → Bool
 isWithdrawnRead s es = any (hasRead (s .day) (s .value)) (withdrawn es)
 
--- ---- 1, 9, 10, 11: a read of that day stands
-unfoldable pub isOnDay : Slot → Bool
-isOnDay (Read e) = true
-isOnDay Empty = false
-
+-- ---- 1, 9, 10, 11: a read of that day stands, and then 11 at the latest
 -- "a standing read has the same day, type, value and indicator"
 unfoldable pub isRepeat : Submission → Slot → Bool
 isRepeat s (Read e) =
@@ -57,7 +53,7 @@ isRepeat s Empty = false
 
 -- "9 (submitted type I or F)"
 unfoldable pub isATOnDay : Submission → Slot → Bool
-isATOnDay s sameDay = isOnDay sameDay && (eqb (s .letter) letterI || isFinal (s .letter))
+isATOnDay s sameDay = isThere sameDay && (eqb (s .letter) letterI || isFinal (s .letter))
 
 -- "standing read of that day, other indicator"
 unfoldable pub isOtherIndicator : Submission → Slot → Bool
@@ -148,7 +144,7 @@ module _ (s : Submission) (j : Journal) where
       ∷ rule repeat (isRepeat s sameDay)
       ∷ rule readAT (isATOnDay s sameDay)
       ∷ rule readEH (isOtherIndicator s sameDay)
-      ∷ rule readBF (isOnDay sameDay)
+      ∷ rule readBF (isThere sameDay)
       ∷ rule backDated (isBackDated s (recent .last))
       ∷ rule readDF (isUnopened s (standing (j .entries)))
       ∷ rule readAT (isATLater s (standing (j .entries)))

@@ -2,8 +2,9 @@
 ghost use mathlib.Core.Path.{_≡_};
 ghost use Rattle.terms.specs.Entry.{isStanding, isWithdrawn, isHeld};
 ghost use Rattle.terms.specs.Letter.{isFinal};
-ghost use Rattle.journal.specs.Sound.{isBody, isRead, isFinalRead, isPlate};
-ghost use Rattle.journal.specs.Survey.{isThere, isAfter, mayStand, mayFollow};
+ghost use Rattle.journal.specs.Sound.{isBody, isRead, isFinalRead};
+ghost use Rattle.journal.specs.Survey.{isAfter, mayStand, mayFollow};
+use crate::slot::is_there;
 use terms::entry::Entry;
 use terms::entry::Kind;
 use terms::entry::Slot;
@@ -12,22 +13,6 @@ use terms::letter::is_holdable;
 use terms::letter::is_known;
 use terms::letter::is_opening;
 use terms::submission::Indicator;
-
-// The dials that a meter may have.
-pub struct Dials;
-
-impl Dials {
-    pub const LEAST: u8 = 4;
-
-    pub const MOST: u8 = 9;
-}
-
-// Dials and a capacity that a meter may have.
-pub fn is_plate(dials: u8, capacity: u32) -> bool
-    ensures { λ r. ⌜ r ≡ isPlate dials capacity ⌝ }
-{
-    (Dials::LEAST <= dials) & ((dials <= Dials::MOST) & !(capacity == 0))
-}
 
 pub(crate) fn is_standing(e: Entry) -> bool
     ensures { λ r. ⌜ r ≡ isStanding e ⌝ }
@@ -69,15 +54,6 @@ fn is_read(limit: u64, e: Entry) -> bool
     ensures { λ r. ⌜ r ≡ isRead limit e ⌝ }
 {
     (is_standing(e) | (is_withdrawn(e) | is_held(e))) & is_body(limit, e)
-}
-
-fn is_there(slot: Slot) -> bool
-    ensures { λ r. ⌜ r ≡ isThere slot ⌝ }
-{
-    match slot {
-        Slot::Read(_) => true,
-        Slot::Empty => false,
-    }
 }
 
 // Later than the last standing read, which exists.

@@ -9,7 +9,7 @@ ghost use Rattle.journal.specs.Journal.{maxEntries, entriesTo, allZero};
 ghost use Rattle.journal.specs.Sound.{isMeter};
 ghost use Rattle.journal.specs.Survey.{passOf, surveyed};
 use crate::apart::is_apart;
-use crate::order::is_plate;
+use crate::plate::is_plate;
 use crate::read::entry_at;
 use crate::read::entry_count;
 use crate::read::long_at;

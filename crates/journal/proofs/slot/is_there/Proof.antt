@@ -1,8 +1,8 @@
 -- The match on the slot is the definition's.
 use Rattle.journal.specs.Survey.{isThere}
 use borrow.Author.Needs.{needs}
-use Rattle.journal.proofs.order.is_there.Statement.{statement}
-use Rattle.journal.proofs.order.is_there.Tie as tie
+use Rattle.journal.proofs.slot.is_there.Statement.{statement}
+use Rattle.journal.proofs.slot.is_there.Tie as tie
 
 enum-told : tie.Need-enum-told
 enum-told c = search needs
