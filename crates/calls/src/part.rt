@@ -8,7 +8,7 @@ use register::area::Layout;
 use terms::number::Number;
 
 // How long the part is: from the area's start to the last entry's end, and 0 where report refuses.
-fn journal_length(register: &[u8], place: u8) -> usize
+pub fn journal_length(register: &[u8], place: u8) -> usize
     ensures { λ r. ⌜ r ≡ journalLength place (now (register .entry)) ⌝ }
 {
     if check_place(register, place) != Number::ACCEPTED {

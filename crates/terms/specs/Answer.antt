@@ -11,5 +11,9 @@ answer number flag advance = record { number = number; flag = flag; advance = ad
 abbrev pub refusal : ℕ → Answer
 refusal number = answer number 0 (pos 0)
 
+abbrev pub reported : ℕ → ℕ → ℕ → ℤ → Report
+reported number standing flagged total =
+    record { number = number; standing = standing; flagged = flagged; total = total }
+
 abbrev pub refusedReport : ℕ → Report
-refusedReport number = record { number = number; standing = 0; flagged = 0; total = pos 0 }
+refusedReport number = reported number 0 0 (pos 0)

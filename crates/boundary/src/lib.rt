@@ -1,0 +1,69 @@
+// The calls for a program in C or Rust: numbers and byte slices alone, no promise asked of the caller. Each answers its number and puts the
+// other fields where the caller says.
+ghost use mathlib.Core.Path.{_≡_};
+ghost use Rattle.terms.specs.Answer.{answer, reported};
+ghost use Rattle.calls.specs.Calls.{done, step, journalLength};
+use calls::call::Call;
+use calls::call::Reply;
+
+#[no_mangle]
+pub extern "C" fn necktureen_enrol(
+    register: &mut [u8],
+    place: u8,
+    dials: u8,
+    capacity: u32,
+    flag: &mut u8,
+    advance: &mut i64,
+) -> u8
+    ensures { λ r. ⌜ done (Reply.Answered (answer r (now (flag .exit)) (now (advance .exit)))) (now (register .exit)) ≡ step (Call.Enrol place dials capacity) (now (register .entry)) ⌝ }
+{
+    let a = calls::enrol::enrol(register, place, dials, capacity);
+    let moved = a.advance;
+    *flag = a.flag;
+    *advance = moved;
+    a.number
+}
+
+#[no_mangle]
+pub extern "C" fn necktureen_withdraw(
+    register: &mut [u8],
+    place: u8,
+    day: u16,
+    value: u32,
+    flag: &mut u8,
+    advance: &mut i64,
+) -> u8
+    ensures { λ r. ⌜ done (Reply.Answered (answer r (now (flag .exit)) (now (advance .exit)))) (now (register .exit)) ≡ step (Call.Withdraw place day value) (now (register .entry)) ⌝ }
+{
+    let a = calls::withdraw::withdraw(register, place, day, value);
+    let moved = a.advance;
+    *flag = a.flag;
+    *advance = moved;
+    a.number
+}
+
+#[no_mangle]
+pub extern "C" fn necktureen_report(
+    register: &[u8],
+    place: u8,
+    standing: &mut u8,
+    flagged: &mut u8,
+    total: &mut i64,
+) -> u8
+    ensures { λ r. ⌜ done (Reply.Reported (reported r (now (standing .exit)) (now (flagged .exit)) (now (total .exit)))) (now (register .entry)) ≡ step (Call.Ask place) (now (register .entry)) ⌝ }
+{
+    let a = calls::report::report(register, place);
+    let sum = a.total;
+    *standing = a.standing;
+    *flagged = a.flagged;
+    *total = sum;
+    a.number
+}
+
+// How long the meter's journal is, from 512 × place on: 0 where a report is refused.
+#[no_mangle]
+pub extern "C" fn necktureen_journal(register: &[u8], place: u8) -> usize
+    ensures { λ r. ⌜ r ≡ journalLength place (now (register .entry)) ⌝ }
+{
+    calls::part::journal_length(register, place)
+}
