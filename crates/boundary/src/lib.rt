@@ -5,6 +5,7 @@ ghost use Rattle.terms.specs.Answer.{answer, reported};
 ghost use Rattle.calls.specs.Calls.{done, step, journalLength};
 use calls::call::Call;
 use calls::call::Reply;
+use terms::submission::Submission;
 
 #[no_mangle]
 pub extern "C" fn necktureen_enrol(
@@ -18,6 +19,36 @@ pub extern "C" fn necktureen_enrol(
     ensures { λ r. ⌜ done (Reply.Answered (answer r (now (flag .exit)) (now (advance .exit)))) (now (register .exit)) ≡ step (Call.Enrol place dials capacity) (now (register .entry)) ⌝ }
 {
     let a = calls::enrol::enrol(register, place, dials, capacity);
+    let moved = a.advance;
+    *flag = a.flag;
+    *advance = moved;
+    a.number
+}
+
+#[no_mangle]
+pub extern "C" fn necktureen_submit(
+    register: &mut [u8],
+    place: u8,
+    submitted: u16,
+    day: u16,
+    value: u32,
+    letter: u8,
+    indicator: u8,
+    reread: u8,
+    flag: &mut u8,
+    advance: &mut i64,
+) -> u8
+    ensures { λ r. ⌜ done (Reply.Answered (answer r (now (flag .exit)) (now (advance .exit)))) (now (register .exit)) ≡ step (Call.Submit place (record { submitted = submitted; day = day; value = value; letter = letter; indicator = indicator; reread = reread })) (now (register .entry)) ⌝ }
+{
+    let s = Submission {
+        submitted,
+        day,
+        value,
+        letter,
+        indicator,
+        reread,
+    };
+    let a = submit::submit::submit(register, place, s);
     let moved = a.advance;
     *flag = a.flag;
     *advance = moved;

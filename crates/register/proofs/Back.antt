@@ -1,39 +1,86 @@
--- What an area holds after a write: the entry written, and the entries below as they were.
-use mathlib.Core.Path.{_≡_, refl, sym, ap, ap₂, _∙_}
-use Prim.Native.Nat.{ℕ, zero, suc, _+_, _*_, _/_, _%_, _≤_, _<_}
-use mathlib.Core.List.{List, [], _∷_}
+-- What an area holds after a write: the entry written, and the entries below and above as they were.
+use mathlib.Core.Path.{_≡_, sym, ap, _∙_}
+use Prim.Native.Nat.{ℕ, _+_, _-_, _/_, _%_, _≤_, _<_}
+use mathlib.Core.List.{List}
 use native.Mathlib.Omega.{arith}
 use mathlib.Core.Logic.{_≢_}
 use lib.ListN.{length, getD, set, take, drop, length-set}
-use lib.Seq.{getD-set-same, getD-set-other, getD-take, take-set-le}
+use lib.Seq.{getD-set-same, getD-set-other, getD-take, getD-drop, take-set-le, drop-set-lt}
 use Rattle.terms.specs.declared.entry.Entry.{Entry}
-use Rattle.register.specs.Bytes.{wordAt, longAt, putWord, putLong}
-use Rattle.register.specs.Entries.{entryAt, putEntry}
+use Rattle.terms.specs.Entry.{kindMeter}
+use Rattle.register.specs.Bytes.{byteAt, wordAt, longAt, putWord, putLong}
+use Rattle.register.specs.Entries.{meterBytes, dialsOf, capacityOf, entryAt, putMeter, putEntry}
 
--- ---- what agrees up to n has the same entries there
+-- ---- lists that agree from low up to high: what is read there is the same
+module _ (a b : List ℕ) (low high : ℕ) (h : (j : ℕ) → low ≤ j → j < high → getD a j 0 ≡ getD b j 0) where
+  alike-word : (j : ℕ) → low ≤ j → j + 2 ≤ high → wordAt a j ≡ wordAt b j
+  unfolding wordAt
+  alike-word j g l = cc (h j g (omega arith), h (j + 1) (omega arith) (omega arith))
+
+  alike-long : (j : ℕ) → low ≤ j → j + 4 ≤ high → longAt a j ≡ longAt b j
+  unfolding longAt
+  alike-long j g l = cc (alike-word j g (omega arith), alike-word (j + 2) (omega arith) (omega arith))
+
+  alike-entry : (j : ℕ) → low ≤ j → j + 10 ≤ high → entryAt a j ≡ entryAt b j
+  unfolding entryAt
+  alike-entry j g l =
+      cc (
+        h j g (omega arith),
+        alike-word (j + 1) (omega arith) (omega arith),
+        alike-long (j + 3) (omega arith) (omega arith),
+        h (j + 7) (omega arith) (omega arith),
+        h (j + 8) (omega arith) (omega arith),
+        h (j + 9) (omega arith) (omega arith),
+      )
+
+-- ---- what agrees up to n has the same bytes and entries there
 module _ (a b : List ℕ) (n : ℕ) (h : take n a ≡ take n b) where
-  same-byte : (j : ℕ) → j < n → getD a j 0 ≡ getD b j 0
+  pub same-byte : (j : ℕ) → j < n → getD a j 0 ≡ getD b j 0
   same-byte j l = sym (getD-take n a j 0 l) ∙ ap (λ (z : List ℕ). getD z j 0) h ∙ getD-take n b j 0 l
 
-  same-word : (j : ℕ) → j + 2 ≤ n → wordAt a j ≡ wordAt b j
-  unfolding wordAt
-  same-word j l = cc (same-byte j (omega arith), same-byte (j + 1) (omega arith))
+  same-up-to : (j : ℕ) → 0 ≤ j → j < n → getD a j 0 ≡ getD b j 0
+  same-up-to j g l = same-byte j l
 
-  same-long : (j : ℕ) → j + 4 ≤ n → longAt a j ≡ longAt b j
-  unfolding longAt
-  same-long j l = cc (same-word j (omega arith), same-word (j + 2) (omega arith))
+  same-word : (j : ℕ) → j + 2 ≤ n → wordAt a j ≡ wordAt b j
+  same-word j l = alike-word a b 0 n same-up-to j (omega arith) l
+
+  pub same-long : (j : ℕ) → j + 4 ≤ n → longAt a j ≡ longAt b j
+  same-long j l = alike-long a b 0 n same-up-to j (omega arith) l
 
   pub same-entry : (j : ℕ) → j + 10 ≤ n → entryAt a j ≡ entryAt b j
-  unfolding entryAt
-  same-entry j l =
-      cc (
-        same-byte j (omega arith),
-        same-word (j + 1) (omega arith),
-        same-long (j + 3) (omega arith),
-        same-byte (j + 7) (omega arith),
-        same-byte (j + 8) (omega arith),
-        same-byte (j + 9) (omega arith),
-      )
+  same-entry j l = alike-entry a b 0 n same-up-to j (omega arith) l
+
+-- ---- what agrees from n on has the same entries there
+module _ (a b : List ℕ) (n : ℕ) (h : drop n a ≡ drop n b) where
+  past-byte : (j : ℕ) → n ≤ j → getD a j 0 ≡ getD b j 0
+  past-byte j g =
+      let e : n + (j - n) ≡ j = omega arith in
+      rw e at (sym (getD-drop n a (j - n) 0) ∙ ap (λ (z : List ℕ). getD z (j - n) 0) h ∙ getD-drop n b (j - n) 0)
+
+  pub past-entry : (i : ℕ) → n ≤ i → entryAt a i ≡ entryAt b i
+  past-entry i g = alike-entry a b n (i + 10) (λ j m l. past-byte j m) i g (omega arith)
+
+-- ---- another kind byte: the body is as it was
+pub other-kind : (a : List ℕ) (i k : ℕ) → i < length a → entryAt (set a i k) i ≡ record {
+  kind = k;
+  day = entryAt a i .day;
+  value = entryAt a i .value;
+  letter = entryAt a i .letter;
+  indicator = entryAt a i .indicator;
+  flag = entryAt a i .flag;
+}
+unfolding entryAt
+other-kind a i k room =
+    let b = set a i k in
+    let h : (j : ℕ) → i + 1 ≤ j → j < i + 10 → getD b j 0 ≡ getD a j 0 = λ j g l. getD-set-other a i j k 0 (omega arith) in
+    cc (
+      getD-set-same a i k 0 room,
+      alike-word b a (i + 1) (i + 10) h (i + 1) (omega arith) (omega arith),
+      alike-long b a (i + 1) (i + 10) h (i + 3) (omega arith) (omega arith),
+      h (i + 7) (omega arith) (omega arith),
+      h (i + 8) (omega arith) (omega arith),
+      h (i + 9) (omega arith) (omega arith),
+    )
 
 -- ---- a write
 module _ (a : List ℕ) (i : ℕ) where
@@ -44,6 +91,13 @@ module _ (a : List ℕ) (i : ℕ) where
   word-below : (v n : ℕ) → n ≤ i → take n (putWord a i v) ≡ take n a
   unfolding putWord
   word-below v n l = let l′ : n ≤ i + 1 = omega arith in simp take-set-le
+
+  word-above : (v n : ℕ) → i + 2 ≤ n → drop n (putWord a i v) ≡ drop n a
+  unfolding putWord
+  word-above v n l =
+      let l₀ : i < n = omega arith in
+      let l₁ : i + 1 < n = omega arith in
+      simp drop-set-lt
 
   word-same : (v : ℕ) → i + 2 ≤ length a → wordAt (putWord a i v) i ≡ v
   unfolding wordAt putWord
@@ -61,6 +115,13 @@ module _ (a : List ℕ) (i : ℕ) where
   long-below : (v n : ℕ) → n ≤ i → take n (putLong a i v) ≡ take n a
   unfolding putLong
   long-below v n l = let l′ : n ≤ i + 2 = omega arith in simp word-below
+
+  long-above : (v n : ℕ) → i + 4 ≤ n → drop n (putLong a i v) ≡ drop n a
+  unfolding putLong
+  long-above v n l =
+      let l₀ : i + 2 ≤ n = omega arith in
+      let l₂ : i + 2 + 2 ≤ n = omega arith in
+      simp word-above
 
   long-same : (v : ℕ) → i + 4 ≤ length a → longAt (putLong a i v) i ≡ v
   unfolding longAt putLong
@@ -86,6 +147,17 @@ entry-below a i e n l =
     let l₈ : n ≤ i + 8 = omega arith in
     let l₉ : n ≤ i + 9 = omega arith in
     simp (take-set-le, word-below, long-below)
+
+pub entry-above : (a : List ℕ) (i : ℕ) (e : Entry) (n : ℕ) → i + 10 ≤ n → drop n (putEntry a i e) ≡ drop n a
+unfolding putEntry
+entry-above a i e n l =
+    let l₀ : i < n = omega arith in
+    let l₁ : i + 1 + 2 ≤ n = omega arith in
+    let l₃ : i + 3 + 4 ≤ n = omega arith in
+    let l₇ : i + 7 < n = omega arith in
+    let l₈ : i + 8 < n = omega arith in
+    let l₉ : i + 9 < n = omega arith in
+    simp (drop-set-lt, word-above, long-above)
 
 -- ---- the entry written is read back
 module _ (a : List ℕ) (i : ℕ) (e : Entry) (room : i + 10 ≤ length a) where
@@ -145,3 +217,40 @@ module _ (a : List ℕ) (i : ℕ) (e : Entry) (room : i + 10 ≤ length a) where
       let indicator = same-byte s₆ s₅ (i + 9) e₅ (i + 8) (omega arith) ∙ getD-set-same s₄ (i + 8) (e .indicator) 0 l₄ in
       let flag = getD-set-same s₅ (i + 9) (e .flag) 0 l₅ in
       λ t. record { kind = kind t; day = day t; value = value t; letter = letter t; indicator = indicator t; flag = flag t }
+
+-- ---- the meter's entry written
+module _ (a : List ℕ) (dials capacity : ℕ) where
+  pub meter-length : length (putMeter a dials capacity) ≡ length a
+  unfolding putMeter
+  meter-length = simp (long-length, length-set)
+
+  pub meter-above : (n : ℕ) → meterBytes ≤ n → drop n (putMeter a dials capacity) ≡ drop n a
+  unfolding putMeter
+  meter-above n l =
+      let l₀ : 0 < n = omega arith in
+      let l₁ : 1 < n = omega arith in
+      let l₂ : 2 + 4 ≤ n = omega arith in
+      simp (drop-set-lt, long-above)
+
+  module _ (room : meterBytes ≤ length a) where
+    abbrev head : List ℕ
+    head = set (set a 0 kindMeter) 1 dials
+
+    below : take 2 (putMeter a dials capacity) ≡ take 2 head
+    unfolding putMeter
+    below = long-below head 2 capacity 2 (omega arith)
+
+    pub meter-kind : byteAt (putMeter a dials capacity) 0 ≡ kindMeter
+    meter-kind =
+        same-byte (putMeter a dials capacity) head 2 below 0 (omega arith)
+        ∙ getD-set-other (set a 0 kindMeter) 1 0 dials 0 (omega arith)
+        ∙ getD-set-same a 0 kindMeter 0 (omega arith)
+
+    pub meter-dials : dialsOf (putMeter a dials capacity) ≡ dials
+    meter-dials =
+        same-byte (putMeter a dials capacity) head 2 below 1 (omega arith)
+        ∙ getD-set-same (set a 0 kindMeter) 1 dials 0 (simp length-set (omega arith))
+
+    pub meter-capacity : capacityOf (putMeter a dials capacity) ≡ capacity
+    unfolding putMeter
+    meter-capacity = long-same head 2 capacity (simp length-set (omega arith))

@@ -1,0 +1,14 @@
+pub mod Bools
+pub mod Zeros
+pub mod Lists
+pub mod Clauses
+pub mod Shape
+pub mod Enrolled
+pub mod Written
+pub mod Newest
+pub mod Broken
+pub mod Withdrawn
+pub mod Passed
+pub mod Accepted
+pub mod Acted
+pub mod Kept

@@ -1,0 +1,99 @@
+-- The decision, stage by stage: what the area is, the two stages of numbers that write nothing, and the judgement.
+use mathlib.Core.Path.{_≡_, refl, ap, _∙_}
+use mathlib.Core.Bool.{Bool, true, false, not, _&&_, and-eq-true-iff}
+use mathlib.Core.List.{List, [], _∷_, _++_}
+use Prim.Native.Nat.{ℕ}
+use lib.Dec.{eqb}
+use lib.ListN.{length}
+use borrow.Author.Tests.{not-true}
+use Rattle.terms.specs.declared.submission.Submission.{Submission}
+use Rattle.terms.specs.Entry.{slotAt, recentOf}
+use Rattle.terms.specs.Number.{accepted, noMeter, damaged, readEE, readEF}
+use Rattle.terms.specs.Rule.{Rule, numberIf, firstBroken}
+use Rattle.rules.specs.declared.indicator.Indicated.the-variants.{Denied, Unclear, Flag}
+use Rattle.rules.specs.Indicator.{indicatedFlag}
+use Rattle.rules.specs.Volume.{advanceOver, volumeNumber}
+use Rattle.register.specs.Area.{areaBytes}
+use Rattle.journal.specs.declared.survey.Surveyed.{Surveyed}
+use Rattle.journal.specs.declared.survey.Surveyed.the-variants.{Zero, Damaged, Sound}
+use Rattle.journal.specs.Journal.{Journal, journalOf, allZero, standing, kept}
+use Rattle.journal.specs.Sound.{isSound}
+use Rattle.journal.specs.Survey.{pickSurveyed, surveyed}
+use Rattle.calls.specs.Calls.{isVolumeQuery, submittedAdvance}
+use Rattle.calls.specs.Checks.{isDenied, isUnclear, indicatedIn, submitRules, submitChecks}
+use Rattle.submit.specs.declared.decide.Decision.{Decision}
+use Rattle.submit.specs.Decision.{pickDecision, refusedDecision, decided, decidedIn, decisionOf, earlyRules, lateRules, judgedRules, surveyFor}
+
+-- ---- what a survey of the area says of the decision
+abbrev pub Means : Submission → List ℕ → Surveyed → Type 0
+Means s area Zero = decisionOf s area ≡ refusedDecision noMeter
+Means s area Damaged = decisionOf s area ≡ refusedDecision damaged
+Means s area (Sound v) =
+    (v ≡ surveyFor s (journalOf area))
+    × (decisionOf s area ≡ decidedIn s (journalOf area) (firstBroken (submitRules s (journalOf area))))
+
+module _ (s : Submission) (area : List ℕ) where
+  by-tests : (zero sound : Bool) → allZero area ≡ zero → isSound area ≡ sound → Means s area (pickSurveyed zero Zero (pickSurveyed sound (Sound (surveyFor s (journalOf area))) Damaged))
+  unfolding decisionOf decidedIn decided submitChecks
+  by-tests true sound z t = rw z
+  by-tests false true z t = (refl, rw (z, t))
+  by-tests false false z t = rw (z, t)
+
+  pub means : length area ≡ areaBytes → Means s area (surveyed (s .day) (s .value) area)
+  unfolding surveyed
+  means h = rw h (by-tests (allZero area) (isSound area) refl refl)
+
+-- ---- a stage of rules whose numbers write nothing
+abbrev writesNothing : ℕ → Bool
+writesNothing n = not (eqb n accepted) && not (isVolumeQuery n)
+
+abbrev allWriteNothing : List Rule → Bool
+allWriteNothing [] = true
+allWriteNothing (r ∷ rs) = writesNothing (r .number) && allWriteNothing rs
+
+module _ (s : Submission) (j : Journal) where
+  -- the decision where the stage gives n, and the rules after it m
+  abbrev after : ℕ → ℕ → Decision
+  after n m = pickDecision (eqb n accepted) (decidedIn s j m) (refusedDecision n)
+
+  one-rule : (b : Bool) (n k rest whole : ℕ) → writesNothing n ≡ true → decidedIn s j whole ≡ after k rest → decidedIn s j (numberIf b n whole) ≡ after (numberIf b n k) rest
+  unfolding decidedIn decided
+  one-rule true n k rest whole h e =
+      let both = and-eq-true-iff _ _ .0 h in
+      rw (not-true (eqb n accepted) (both .0), not-true (isVolumeQuery n) (both .1))
+  one-rule false n k rest whole h e = e
+
+  one-stage : (xs ys : List Rule) → allWriteNothing xs ≡ true → decidedIn s j (firstBroken (xs ++ ys)) ≡ after (firstBroken xs) (firstBroken ys)
+  one-stage [] ys h = refl
+  one-stage (r ∷ rs) ys h =
+      let both = and-eq-true-iff _ _ .0 h in
+      one-rule (r .broken) (r .number) (firstBroken rs) (firstBroken ys) (firstBroken (rs ++ ys)) (both .0) (one-stage rs ys (both .1))
+
+  -- the rules of a sound journal, in their stages
+  abbrev early : ℕ
+  early = firstBroken (earlyRules s j)
+
+  abbrev late : ℕ
+  late = firstBroken (lateRules s j)
+
+  pub in-stages : decidedIn s j (firstBroken (submitRules s j)) ≡ pickDecision (eqb early accepted) (pickDecision (eqb late accepted) (decidedIn s j (firstBroken (judgedRules s j))) (refusedDecision late)) (refusedDecision early)
+  unfolding submitRules earlyRules lateRules judgedRules
+  in-stages =
+      one-stage (earlyRules s j) (lateRules s j ++ judgedRules s j) refl
+      ∙ ap (λ (d : Decision). pickDecision (eqb early accepted) d (refusedDecision early)) (one-stage (lateRules s j) (judgedRules s j) refl)
+
+  -- ---- the judgement, by what the indicator makes of the detection
+  abbrev judged : Decision
+  judged = decidedIn s j (firstBroken (judgedRules s j))
+
+  pub denied : indicatedIn s j ≡ Denied → judged ≡ refusedDecision readEE
+  unfolding decidedIn decided submitRules judgedRules isDenied
+  denied h = rw h
+
+  pub unclear : indicatedIn s j ≡ Unclear → judged ≡ refusedDecision readEF
+  unfolding decidedIn decided submitRules judgedRules isDenied isUnclear
+  unclear h = rw h
+
+  pub flagged : (flag : ℕ) → indicatedIn s j ≡ Flag flag → judged ≡ decided (volumeNumber (j .dials) (j .capacity) s flag (recentOf (standing (j .entries)))) flag (advanceOver (j .dials) (s .value) flag (slotAt (standing (j .entries)) 0)) (kept (j .entries))
+  unfolding decidedIn submittedAdvance submitRules judgedRules isDenied isUnclear indicatedFlag volumeNumber
+  flagged flag h = rw h

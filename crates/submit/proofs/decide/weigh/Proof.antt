@@ -1,0 +1,34 @@
+-- The number decides what is stored with it.
+use mir.Syntax.{w64}
+use mir.ValLaws.{toZ-ofZ}
+use borrow.Author.Tests.{ne-eqb}
+use borrow.Author.Needs.{needs, sfits-of}
+use Rattle.submit.specs.Decision.{decided}
+use Rattle.submit.proofs.decide.weigh.Statement.{statement}
+use Rattle.submit.proofs.decide.weigh.Tie as tie
+
+volume-requires : tie.Need-volume-requires
+volume-requires c κs = search needs
+
+advance-over-requires : tie.Need-advance-over-requires
+advance-over-requires c κs = search needs
+
+returns : tie.Need-returns
+unfolding decided
+returns c = rw (← c .before .before .volume .ensures, c .before .if1 .taken, toZ-ofZ w64 _ (sfits-of (c .advance-over .ok)), c .advance-over .ensures)
+
+returns-2 : tie.Need-returns-2
+unfolding decided
+returns-2 c = rw (← c .before .before .volume .ensures, ne-eqb _ _ (c .before .if1 .left), c .if2 .taken)
+
+refused-requires : tie.Need-refused-requires
+refused-requires c κs = search needs
+
+returns-3 : tie.Need-returns-3
+unfolding decided
+returns-3 c = rw (← c .before .before .before .volume .ensures, ne-eqb _ _ (c .before .before .if1 .left), c .before .if2 .left) (c .refused .ensures)
+
+pub weigh-spec : {M : Type 1} → statement M
+weigh-spec =
+    tie.close
+    (tie.spec volume-requires advance-over-requires returns returns-2 refused-requires returns-3)

@@ -1,0 +1,24 @@
+-- What is stored and answered follows from the decision, and so does what the call is to leave and to answer.
+use Rattle.submit.proofs.Taken.{follows}
+use borrow.Author.Needs.{needs}
+use Rattle.submit.proofs.submit.submit_in.Statement.{statement}
+use Rattle.submit.proofs.submit.submit_in.Tie as tie
+
+decide-requires : tie.Need-decide-requires
+decide-requires c κs = search needs
+
+store-requires : tie.Need-store-requires
+store-requires c κs = search needs
+
+answer-requires : tie.Need-answer-requires
+answer-requires c κs = search needs
+
+same-length : tie.Need-same-length
+same-length c = search needs
+
+returns : tie.Need-returns
+returns c = cc (follows (c .before .before .before .before .before .before .before .before .args .s) (c .before .before .before .before .before .before .before .before .args .area .now), c .answer .ensures, c .before .before .before .store .ensures, c .before .before .before .before .before .decide .ensures)
+
+pub submit-in-spec : {M : Type 1} → statement M
+submit-in-spec =
+    tie.close (tie.spec decide-requires store-requires answer-requires same-length returns)

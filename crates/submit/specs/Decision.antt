@@ -1,0 +1,79 @@
+-- 01, Calls: the decision on a submission, apart from the writing, and the stages in which it is reached.
+use mathlib.Core.Bool.{Bool, true, false}
+use mathlib.Core.List.{List}
+use Prim.Native.Nat.{ℕ}
+use lib.Dec.{eqb}
+use lib.IntN.{ℤ, pos}
+use lib.ListN.{take, drop}
+use Rattle.terms.specs.declared.answer.Answer.{Answer}
+use Rattle.terms.specs.declared.submission.Submission.{Submission}
+use Rattle.terms.specs.Answer.{answer, refusal}
+use Rattle.terms.specs.Entry.{kindStanding, kindHeld}
+use Rattle.terms.specs.Number.{accepted}
+use Rattle.terms.specs.Rule.{Rule, firstBroken}
+use Rattle.register.specs.Entries.{entryStart, putEntry}
+use Rattle.journal.specs.declared.survey.Survey.{Survey}
+use Rattle.journal.specs.Journal.{Journal, journalOf, kept}
+use Rattle.journal.specs.Survey.{surveyOf}
+use Rattle.calls.specs.Checks.{submitRules, submitChecks, takenFlag}
+use Rattle.calls.specs.Calls.{entryFor, isVolumeQuery, submittedAdvance, pickBytes}
+use Rattle.submit.specs.declared.decide.Decision.{Decision}
+
+abbrev pub pickDecision : Bool → Decision → Decision → Decision
+pickDecision true a b = a
+pickDecision false a b = b
+
+-- "Every number but 0 comes with zeros in the other fields and changes no byte", but for 19 and 20
+abbrev pub refusedDecision : ℕ → Decision
+refusedDecision number = record { number = number; flag = 0; advance = pos 0; at = 0 }
+
+-- the number; for an accepted read its flag and advance; for 19 and 20 the flag that is stored; and after how many entries it is written
+unfoldable pub decided : ℕ → ℕ → ℤ → ℕ → Decision
+decided number flag advance at =
+    pickDecision (eqb number accepted)
+    (record { number = accepted; flag = flag; advance = advance; at = at })
+    (pickDecision (isVolumeQuery number)
+    (record { number = number; flag = flag; advance = pos 0; at = at })
+    (refusedDecision number))
+
+-- what a number makes of a submission to a journal
+unfoldable pub decidedIn : Submission → Journal → ℕ → Decision
+decidedIn s j number = decided number (takenFlag s j) (submittedAdvance s j) (kept (j .entries))
+
+unfoldable pub decisionOf : Submission → List ℕ → Decision
+decisionOf s area = decidedIn s (journalOf area) (firstBroken (submitChecks s area))
+
+-- ---- the stages in which the number is found: parts of the one list of rules
+-- 5 to 8, then 1, 9, 10, 11
+unfoldable pub earlyRules : Submission → Journal → List Rule
+earlyRules s j = take 8 (submitRules s j)
+
+-- 12, 13, 9, 14 to 16
+unfoldable pub lateRules : Submission → Journal → List Rule
+lateRules s j = take 6 (drop 8 (submitRules s j))
+
+-- 17 to 21
+unfoldable pub judgedRules : Submission → Journal → List Rule
+judgedRules s j = drop 14 (submitRules s j)
+
+-- what one pass over a journal shows of a submission
+abbrev pub surveyFor : Submission → Journal → Survey
+surveyFor s j = surveyOf (s .day) (s .value) j
+
+-- ---- what follows from a decision
+-- "accepted, the read is written as kind 2 .. With 19 or 20 it is written there as kind 4 with its flag"
+unfoldable pub storedBy : Decision → Submission → List ℕ → List ℕ
+storedBy d s area =
+    pickBytes (eqb (d .number) accepted)
+    (putEntry area (entryStart (d .at)) (entryFor kindStanding s (d .flag)))
+    (pickBytes (isVolumeQuery (d .number))
+    (putEntry area (entryStart (d .at)) (entryFor kindHeld s (d .flag)))
+    area)
+
+abbrev pub pickAnswer : Bool → Answer → Answer → Answer
+pickAnswer true a b = a
+pickAnswer false a b = b
+
+-- it answers "its flag and a"
+unfoldable pub answerOf : Decision → Answer
+answerOf d = pickAnswer (eqb (d .number) accepted) (answer (d .number) (d .flag) (d .advance)) (refusal (d .number))
