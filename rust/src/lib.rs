@@ -22,6 +22,19 @@ mod boundary {
             flag: *mut u8,
             advance: *mut i64,
         ) -> u8;
+        pub fn necktureen_submit(
+            register: *mut u8,
+            length: usize,
+            place: u8,
+            submitted: u16,
+            day: u16,
+            value: u32,
+            letter: u8,
+            indicator: u8,
+            reread: u8,
+            flag: *mut u8,
+            advance: *mut i64,
+        ) -> u8;
         pub fn necktureen_withdraw(
             register: *mut u8,
             length: usize,
@@ -152,6 +165,40 @@ pub fn enrol(register: &mut [u8], place: u8, dials: u8, capacity: u32) -> Answer
             place,
             dials,
             capacity,
+            &mut flag,
+            &mut advance,
+        )
+    };
+    Answer { number: number.into(), flag, advance }
+}
+
+/// A submitted read: the day it is submitted on, its own day, value, type letter, indicator (0 not set, 1 false,
+/// 2 true) and whether it is a re-read (1) of a held one.
+#[derive(Clone, Copy, Debug, PartialEq, Eq)]
+pub struct Submission {
+    pub submitted: u16,
+    pub day: u16,
+    pub value: u32,
+    pub letter: u8,
+    pub indicator: u8,
+    pub reread: u8,
+}
+
+/// Submits a read of the meter at a place.
+pub fn submit(register: &mut [u8], place: u8, read: Submission) -> Answer {
+    let (mut flag, mut advance) = (0, 0);
+    // SAFETY: as for `enrol`.
+    let number = unsafe {
+        boundary::necktureen_submit(
+            register.as_mut_ptr(),
+            register.len(),
+            place,
+            read.submitted,
+            read.day,
+            read.value,
+            read.letter,
+            read.indicator,
+            read.reread,
             &mut flag,
             &mut advance,
         )
