@@ -1,10 +1,9 @@
 -- 01, Day sheet and its program: the calls that a sheet holds. "Kind byte, then body".
-use mathlib.Core.Bool.{Bool, true, false, _&&_}
+use mathlib.Core.Bool.{Bool, true, false}
 use mathlib.Core.List.{List, [], _∷_}
 use Prim.Native.Nat.{ℕ, zero, suc, _+_}
 use lib.Dec.{eqb, leb, ltb}
 use lib.ListN.{length}
-use Rattle.terms.specs.declared.submission.Submission.{Submission}
 use Rattle.register.specs.Bytes.{byteAt, wordAt, longAt}
 use Rattle.calls.specs.declared.call.Call.{Call}
 use Rattle.calls.specs.declared.call.Call.the-variants.{Enrol, Submit, Withdraw, Ask}

@@ -1,0 +1,5 @@
+pub mod Bodies
+pub mod Digits
+pub mod Negated
+pub mod Pasted
+pub mod Shown
