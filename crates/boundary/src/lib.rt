@@ -18,7 +18,7 @@ pub extern "C" fn necktureen_enrol(
 ) -> u8
     ensures { λ r. ⌜ done (Reply.Answered (answer r (now (flag .exit)) (now (advance .exit)))) (now (register .exit)) ≡ step (Call.Enrol place dials capacity) (now (register .entry)) ⌝ }
 {
-    let a = calls::enrol::enrol(register, place, dials, capacity);
+    let a = meter::enrol::enrol(register, place, dials, capacity);
     let moved = a.advance;
     *flag = a.flag;
     *advance = moved;
@@ -66,7 +66,7 @@ pub extern "C" fn necktureen_withdraw(
 ) -> u8
     ensures { λ r. ⌜ done (Reply.Answered (answer r (now (flag .exit)) (now (advance .exit)))) (now (register .exit)) ≡ step (Call.Withdraw place day value) (now (register .entry)) ⌝ }
 {
-    let a = calls::withdraw::withdraw(register, place, day, value);
+    let a = meter::withdraw::withdraw(register, place, day, value);
     let moved = a.advance;
     *flag = a.flag;
     *advance = moved;
@@ -83,7 +83,7 @@ pub extern "C" fn necktureen_report(
 ) -> u8
     ensures { λ r. ⌜ done (Reply.Reported (reported r (now (standing .exit)) (now (flagged .exit)) (now (total .exit)))) (now (register .entry)) ≡ step (Call.Ask place) (now (register .entry)) ⌝ }
 {
-    let a = calls::report::report(register, place);
+    let a = meter::report::report(register, place);
     let sum = a.total;
     *standing = a.standing;
     *flagged = a.flagged;
@@ -96,5 +96,5 @@ pub extern "C" fn necktureen_report(
 pub extern "C" fn necktureen_journal(register: &[u8], place: u8) -> usize
     ensures { λ r. ⌜ r ≡ journalLength place (now (register .entry)) ⌝ }
 {
-    calls::part::journal_length(register, place)
+    meter::part::journal_length(register, place)
 }

@@ -20,13 +20,11 @@ use Rattle.rules.specs.Volume.{advanceOver}
 use Rattle.register.specs.Area.{areaBytes, areas, registerBytes, areaOf, withArea}
 use Rattle.register.specs.Entries.{entryStart, putMeter, putEntry, zeroEntry}
 use Rattle.journal.specs.Journal.{Journal, journalOf, entryCount, standing, kept, heldOf}
-use Rattle.journal.specs.Survey.{isFlagged, isThere, firstValue, newestAt, surveyOf}
+use Rattle.journal.specs.Survey.{isFlagged, isThere, firstValue, newestAt}
 use Rattle.calls.specs.declared.call.Call.{Call}
 use Rattle.calls.specs.declared.call.Call.the-variants.{Enrol, Submit, Withdraw, Ask}
 use Rattle.calls.specs.declared.call.Reply.{Reply}
 use Rattle.calls.specs.declared.call.Reply.the-variants.{Answered, Reported}
-use Rattle.calls.specs.declared.withdraw.Decided.{Decided}
-use Rattle.calls.specs.declared.withdraw.Decided.the-variants.{Refused, Taken}
 use Rattle.calls.specs.Checks.{submitChecks, withdrawChecks, enrolChecks, reportChecks, takenFlag}
 
 -- what a call answers, and the area after it
@@ -108,17 +106,6 @@ unfoldable pub withdrawnAnswer : ℕ → Slot → Slot → Answer
 withdrawnAnswer n (Read r0) second =
     answer accepted (r0 .flag) (negℤ (advanceOver n (r0 .value) (r0 .flag) second))
 withdrawnAnswer n Empty second = refusal accepted
-
-abbrev pub pickDecided : Bool → Decided → Decided → Decided
-pickDecided true a b = a
-pickDecided false a b = b
-
--- the decision apart from the writing
-unfoldable pub withdrawDecided : ℕ → ℕ → List ℕ → Decided
-withdrawDecided day value area =
-    pickDecided (eqb (firstBroken (withdrawChecks day value area)) accepted)
-    (Taken (surveyOf day value (journalOf area)))
-    (Refused (firstBroken (withdrawChecks day value area)))
 
 unfoldable pub withdrawIn : ℕ → ℕ → List ℕ → Acted
 withdrawIn day value area =

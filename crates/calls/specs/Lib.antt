@@ -1,2 +1,6 @@
 pub mod Checks
 pub mod Calls
+pub mod Kept
+pub mod Play
+pub mod Ledger
+pub mod DemandThree

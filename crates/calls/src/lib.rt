@@ -1,7 +1,3 @@
-// The calls of document 01 on a lent register: each decides on the bytes as they are, and only then writes.
+// The calls of document 01 as definitions: the order of checks, what each call answers and leaves, and what holds of every list of them.
 pub mod call;
-pub mod enrol;
-pub mod part;
-pub mod place;
-pub mod report;
-pub mod withdraw;
+pub mod claims;

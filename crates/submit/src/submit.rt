@@ -8,7 +8,7 @@ ghost use Rattle.calls.specs.Calls.{entryFor, acted, submitIn, done, step};
 ghost use Rattle.submit.specs.Decision.{storedBy, answerOf};
 use crate::decide::Decision;
 use crate::decide::decide;
-use calls::place::check_place;
+use meter::place::check_place;
 use register::area::Layout;
 use register::write::put_entry;
 use terms::answer::Answer;

@@ -2,7 +2,7 @@
 use native.Mathlib.Omega.{arith}
 use Rattle.calls.specs.declared.call.Call.the-variants.{Submit}
 use Rattle.calls.specs.Calls.{placeOf, refusalOf, act}
-use Rattle.calls.proofs.Placed.{placed, refuses, writes}
+use Rattle.meter.proofs.Placed.{placed, refuses, writes}
 use borrow.Author.Needs.{needs}
 use Rattle.submit.proofs.submit.submit.Statement.{statement}
 use Rattle.submit.proofs.submit.submit.Tie as tie

@@ -1,0 +1,101 @@
+-- What the calls do to the journal of the area that they name, as the theorem about lists uses it.
+use mathlib.Core.Path.{_≡_}
+use mathlib.Core.Bool.{true, false}
+use mathlib.Core.List.{List, [], _∷_}
+use Prim.Native.Nat.{ℕ, _<_}
+use lib.IntN.{negℤ}
+use lib.ListN.{length}
+use Rattle.terms.specs.declared.entry.Entry.{Entry}
+use Rattle.terms.specs.declared.submission.Submission.{Submission}
+use Rattle.terms.specs.Answer.{answer}
+use Rattle.terms.specs.Entry.{kindStanding, slotAt}
+use Rattle.terms.specs.Number.{accepted}
+use Rattle.rules.specs.Volume.{advanceOver}
+use Rattle.register.specs.Area.{areaBytes}
+use Rattle.journal.specs.Journal.{journalOf, allZero, standing, withdrawn}
+use Rattle.journal.specs.Sound.{any, hasRead, areApart, isSound}
+use Rattle.calls.specs.declared.call.Call.{Call}
+use Rattle.calls.specs.declared.call.Call.the-variants.{Enrol, Submit, Withdraw, Ask}
+use Rattle.calls.specs.declared.call.Reply.{Reply}
+use Rattle.calls.specs.declared.call.Reply.the-variants.{Answered}
+use Rattle.calls.specs.Checks.{takenFlag}
+use Rattle.calls.specs.Calls.{act, entryFor, submittedAdvance}
+use Rattle.calls.specs.Play.{numberOf, mayChange}
+use Rattle.calls.proofs.Totals.{IsFlag}
+
+-- the standing and the withdrawn reads of an area
+abbrev pub standingIn : List ℕ → List Entry
+standingIn area = standing (journalOf area .entries)
+
+abbrev pub withdrawnIn : List ℕ → List Entry
+withdrawnIn area = withdrawn (journalOf area .entries)
+
+-- an accepted enrolment
+pub record Enrolled (dials : ℕ) (before after : List ℕ) : Type 0 where
+  pub zero : allZero before ≡ true
+  pub sound : isSound after ≡ true
+  pub dials-are : journalOf after .dials ≡ dials
+  pub none : standingIn after ≡ []
+
+-- a call that leaves the standing and withdrawn reads: a held read stored
+pub record Held (before after : List ℕ) : Type 0 where
+  pub was-sound : isSound before ≡ true
+  pub sound : isSound after ≡ true
+  pub dials-are : journalOf after .dials ≡ journalOf before .dials
+  pub same-standing : standingIn after ≡ standingIn before
+  pub same-withdrawn : withdrawnIn after ≡ withdrawnIn before
+
+-- an accepted submission
+pub record Submitted (s : Submission) (before after : List ℕ) (reply : Reply) : Type 0 where
+  pub was-sound : isSound before ≡ true
+  pub sound : isSound after ≡ true
+  pub dials-are : journalOf after .dials ≡ journalOf before .dials
+  pub one-more : standingIn after ≡ entryFor kindStanding s (takenFlag s (journalOf before)) ∷ standingIn before
+  pub same-withdrawn : withdrawnIn after ≡ withdrawnIn before
+  pub flag : IsFlag (takenFlag s (journalOf before))
+  pub first-flag : standingIn before ≡ [] → takenFlag s (journalOf before) ≡ 0
+  pub replied : reply ≡ Answered (answer accepted (takenFlag s (journalOf before)) (submittedAdvance s (journalOf before)))
+
+-- an accepted withdrawal, of the last standing read
+pub record Withdrew (day value : ℕ) (before after : List ℕ) (reply : Reply) : Type 0 where
+  pub last : Entry
+  pub was-sound : isSound before ≡ true
+  pub sound : isSound after ≡ true
+  pub dials-are : journalOf after .dials ≡ journalOf before .dials
+  pub one-less : standingIn before ≡ last ∷ standingIn after
+  pub names-it : hasRead day value last ≡ true
+  pub flag : IsFlag (last .flag)
+  pub first-flag : standingIn after ≡ [] → last .flag ≡ 0
+  pub keeps : (d v : ℕ) → any (hasRead d v) (withdrawnIn before) ≡ true → any (hasRead d v) (withdrawnIn after) ≡ true
+  pub has : any (hasRead day value) (withdrawnIn after) ≡ true
+  pub replied : reply ≡ Answered (answer accepted (last .flag) (negℤ (advanceOver (journalOf before .dials) (last .value) (last .flag) (slotAt (standingIn after) 0))))
+
+-- all of them
+pub record Effects : Type 0 where
+  pub apart : (area : List ℕ) → allZero area ≡ true → isSound area ≡ true → ⊥
+  pub empty : (area : List ℕ) → allZero area ≡ true → journalOf area .entries ≡ []
+  pub none-clash : (area : List ℕ) → isSound area ≡ true → areApart (standingIn area) (withdrawnIn area) ≡ true
+  pub few-dials : (area : List ℕ) → isSound area ≡ true → journalOf area .dials < 10
+  pub enrol : (place dials capacity : ℕ) (area : List ℕ) → length area ≡ areaBytes →
+      let after = act (Enrol place dials capacity) area in
+      numberOf (after .reply) ≡ accepted → Enrolled dials area (after .area)
+  pub submit : (place : ℕ) (s : Submission) (area : List ℕ) → length area ≡ areaBytes →
+      let after = act (Submit place s) area in
+      numberOf (after .reply) ≡ accepted → Submitted s area (after .area) (after .reply)
+  pub hold : (place : ℕ) (s : Submission) (area : List ℕ) → length area ≡ areaBytes →
+      let after = act (Submit place s) area in
+      (numberOf (after .reply) ≡ accepted → ⊥) → mayChange (numberOf (after .reply)) ≡ true → Held area (after .area)
+  pub withdraw : (place day value : ℕ) (area : List ℕ) → length area ≡ areaBytes →
+      let after = act (Withdraw place day value) area in
+      numberOf (after .reply) ≡ accepted → Withdrew day value area (after .area) (after .reply)
+  pub enrol-refused : (place dials capacity : ℕ) (area : List ℕ) →
+      let after = act (Enrol place dials capacity) area in
+      (numberOf (after .reply) ≡ accepted → ⊥) → after .area ≡ area
+  pub submit-refused : (place : ℕ) (s : Submission) (area : List ℕ) →
+      let after = act (Submit place s) area in
+      mayChange (numberOf (after .reply)) ≡ false → after .area ≡ area
+  pub withdraw-refused : (place day value : ℕ) (area : List ℕ) →
+      let after = act (Withdraw place day value) area in
+      (numberOf (after .reply) ≡ accepted → ⊥) → after .area ≡ area
+  pub ask : (place : ℕ) (area : List ℕ) → act (Ask place) area .area ≡ area
+  pub size : (call : Call) (area : List ℕ) → length area ≡ areaBytes → length (act call area .area) ≡ areaBytes

@@ -1,0 +1,61 @@
+-- Every call leaves an area that is zero or sound, where it found one.
+use mathlib.Core.Path.{_≡_}
+use mathlib.Core.Bool.{true, false}
+use mathlib.Core.List.{List}
+use Prim.Native.Nat.{ℕ}
+use borrow.Author.Tests.{eqb-true}
+use lib.Dec.{eqb}
+use lib.ListN.{length}
+use Rattle.terms.specs.declared.submission.Submission.{Submission}
+use Rattle.terms.specs.Number.{accepted}
+use Rattle.terms.specs.Rule.{firstBroken}
+use Rattle.register.specs.Area.{areaBytes}
+use Rattle.journal.specs.Journal.{allZero}
+use Rattle.journal.specs.Sound.{isSound}
+use Rattle.calls.specs.declared.call.Call.{Call}
+use Rattle.calls.specs.declared.call.Call.the-variants.{Enrol, Submit, Withdraw, Ask}
+use Rattle.calls.specs.Checks.{enrolChecks, submitChecks, withdrawChecks}
+use Rattle.calls.specs.Calls.{isVolumeQuery, enrolIn, submitIn, withdrawIn, act}
+use Rattle.calls.specs.Kept.{isGood, GoodArea}
+use Rattle.calls.proofs.Bools.{right-or, by-test}
+use Rattle.calls.proofs.Acted.{enrolment, enrol-unchanged, submission, volume-query, submit-unchanged, withdrawal-in, withdraw-unchanged, report-unchanged}
+
+good-sound : {a : List ℕ} → length a ≡ areaBytes → isSound a ≡ true → GoodArea a
+unfolding isGood
+good-sound {a} size sound = record { size = size; good = right-or (allZero a) sound }
+
+good-same : {a b : List ℕ} → b ≡ a → GoodArea a → GoodArea b
+good-same e g = rw e g
+
+-- a call by its number: accepted, or not
+by-number : {X : Type 0} (number : ℕ) → (number ≡ accepted → X) → (eqb number accepted ≡ false → X) → X
+by-number number f g = by-test (eqb number accepted) (λ h. f (eqb-true number accepted h)) g
+
+module _ (a : List ℕ) (g : GoodArea a) where
+  enrol-keeps : (dials capacity : ℕ) → GoodArea (enrolIn dials capacity a .area)
+  enrol-keeps dials capacity =
+      by-number (firstBroken (enrolChecks dials capacity a))
+      (λ h. let w = enrolment dials capacity a (g .size) h in good-sound (w .size) (w .sound))
+      (λ h. good-same (enrol-unchanged dials capacity a h) g)
+
+  submit-keeps : (s : Submission) → GoodArea (submitIn s a .area)
+  submit-keeps s =
+      by-number (firstBroken (submitChecks s a))
+      (λ h. let w = submission s a (g .size) h in good-sound (w .size) (w .sound))
+      (λ h.
+      by-test (isVolumeQuery (firstBroken (submitChecks s a)))
+      (λ q. let w = volume-query s a (g .size) q in good-sound (w .size) (w .sound))
+      (λ q. good-same (submit-unchanged s a h q) g))
+
+  withdraw-keeps : (day value : ℕ) → GoodArea (withdrawIn day value a .area)
+  withdraw-keeps day value =
+      by-number (firstBroken (withdrawChecks day value a))
+      (λ h. let w = withdrawal-in day value a (g .size) h in good-sound (w .size) (w .sound))
+      (λ h. good-same (withdraw-unchanged day value a h) g)
+
+pub keeps : (call : Call) (a : List ℕ) → GoodArea a → GoodArea (act call a .area)
+unfolding act
+keeps (Enrol place dials capacity) a g = enrol-keeps a g dials capacity
+keeps (Submit place read) a g = submit-keeps a g read
+keeps (Withdraw place day value) a g = withdraw-keeps a g day value
+keeps (Ask place) a g = good-same (report-unchanged a) g

@@ -1,0 +1,290 @@
+-- The calls have the effects that the theorem about lists uses: each is read off the laws of crate `sound`.
+use mathlib.Core.Path.{_≡_, refl, sym, ap, _∙_}
+use mathlib.Core.Logic.{inl, inr}
+use mathlib.Core.Bool.{Bool, true, false, not, _&&_, _||_}
+use mathlib.Core.List.{List, [], _∷_}
+use Prim.Native.Nat.{ℕ, _≤_, _<_}
+use native.Mathlib.Omega.{arith}
+use borrow.Author.Tests.{eqb-true, eqb-false, eq-eqb, ne-eqb, leb-true, not-false}
+use lib.Dec.{eqb, leb, ltb}
+use lib.IntN.{negℤ}
+use lib.ListN.{length}
+use Rattle.arithmetic.specs.Powers.{tenTo}
+use Rattle.terms.specs.declared.entry.Entry.{Entry}
+use Rattle.terms.specs.declared.entry.Slot.{Slot}
+use Rattle.terms.specs.declared.entry.Slot.the-variants.{Read, Empty}
+use Rattle.terms.specs.declared.submission.Submission.{Submission}
+use Rattle.terms.specs.Entry.{those, kindMeter, indicatorNotSet, indicatorTrue, isStanding, isWithdrawn, isHeld, slotAt}
+use Rattle.terms.specs.Letter.{isKnown, isOpening}
+use Rattle.terms.specs.Answer.{answer}
+use Rattle.terms.specs.Number.{accepted}
+use Rattle.rules.specs.Volume.{advanceOver}
+use Rattle.terms.specs.Rule.{firstBroken}
+use Rattle.register.specs.Area.{areaBytes}
+use Rattle.register.specs.Bytes.{byteAt}
+use Rattle.register.specs.Entries.{dialsOf, capacityOf, entryStart}
+use Rattle.journal.specs.Journal.{Journal, journalOf, allZero, entriesTo, standing}
+use Rattle.journal.specs.Sound.{every, leastDials, mostDials, isMeter, isPlate, isBody, isRead, opensRight, isSound}
+use Rattle.calls.specs.declared.call.Call.{Call}
+use Rattle.calls.specs.declared.call.Call.the-variants.{Enrol, Submit, Withdraw, Ask}
+use Rattle.calls.specs.declared.call.Reply.the-variants.{Answered}
+use Rattle.calls.specs.Checks.{enrolChecks, submitChecks, withdrawChecks}
+use Rattle.calls.specs.Calls.{act, Acted, entryFor, enrolIn, submitIn, withdrawIn, withdrawnAnswer, isVolumeQuery}
+use Rattle.calls.proofs.Bools.{both, neither, by-test}
+use Rattle.calls.proofs.Broken.{unbroken}
+use Rattle.calls.proofs.Zeros.{zero-at, zero-past}
+use Rattle.calls.proofs.Lists.{every-those}
+use Rattle.calls.proofs.Clauses.{Clauses, clauses-of}
+use Rattle.calls.proofs.Shape.{sounds, entries-are}
+use Rattle.calls.proofs.Accepted.{accepted-checked, query-passed}
+use Rattle.calls.proofs.Withdrawn.{can-withdraw, now-withdrawn, still-withdrawn}
+use Rattle.calls.proofs.Acted.{enrolment, enrol-unchanged, submission, volume-query, submit-unchanged, accepted-standing, accepted-withdrawn, query-standing, query-withdrawn, withdrawal-in, withdraw-unchanged, report-unchanged}
+use Rattle.calls.specs.Play.{numberOf, mayChange}
+use Rattle.calls.proofs.Frame.{Local}
+use Rattle.calls.proofs.Totals.{IsFlag}
+use Rattle.calls.proofs.Effects.{standingIn, Enrolled, Held, Submitted, Withdrew, Effects}
+
+-- ---- a flag of at most 1
+small : (f : ℕ) → f ≤ 1 → IsFlag f
+small f h = by-test (eqb f 0) (λ t. inl (eqb-true f 0 t)) (λ t. let ne = eqb-false f 0 t in inr (omega arith))
+
+-- the fifth of six clauses
+fifth : (a b c d e f : Bool) → a && (b && (c && (d && (e && f)))) ≡ true → e ≡ true
+fifth a b c d e f h = both e f (both d _ (both c _ (both b _ (both a _ h .1) .1) .1) .1) .0
+
+flag-bound : (limit : ℕ) (e : Entry) → isBody limit e ≡ true → leb (e .flag) 1 ≡ true
+unfolding isBody
+flag-bound limit e h =
+    fifth (not (eqb (e .day) 0)) (ltb (e .value) limit) (isKnown (e .letter)) (leb (e .indicator) indicatorTrue) (leb (e .flag) 1) (not (isOpening (e .letter)) || eqb (e .indicator) indicatorNotSet) h
+
+-- ---- a sound area
+module _ (area : List ℕ) (sound : isSound area ≡ true) where
+  abbrev limit : ℕ
+  limit = tenTo (journalOf area .dials)
+
+  clauses : Clauses limit (journalOf area .entries)
+  clauses = clauses-of limit (journalOf area .entries) (sounds area sound .sound)
+
+  plated : (eqb (byteAt area 0) kindMeter ≡ true) × (isPlate (dialsOf area) (capacityOf area) ≡ true)
+  unfolding isMeter
+  plated = both (eqb (byteAt area 0) kindMeter) (isPlate (dialsOf area) (capacityOf area)) (sounds area sound .meter)
+
+  not-zero : allZero area ≡ true → ⊥
+  not-zero zero =
+      let kind : byteAt area 0 ≡ kindMeter = eqb-true (byteAt area 0) kindMeter (plated .0) in
+      let none : byteAt area 0 ≡ 0 = zero-at area 0 zero in
+      omega arith
+
+  dials-few : journalOf area .dials < 10
+  unfolding isPlate journalOf
+  dials-few =
+      let upper : leb (dialsOf area) mostDials ≡ true = both _ (not (eqb (capacityOf area) 0)) (both (leb leastDials (dialsOf area)) _ (plated .1) .1) .0 in
+      let most : dialsOf area ≤ mostDials = leb-true (dialsOf area) mostDials upper in
+      omega arith
+
+  module _ (e : Entry) (ss : List Entry) (stands : standingIn area ≡ e ∷ ss) where
+    newest-read : isRead limit e ≡ true
+    unfolding every
+    newest-read =
+        let all : every (isRead limit) (e ∷ ss) ≡ true = rw stands at (every-those (isRead limit) isStanding (journalOf area .entries) (clauses .reads)) in
+        both (isRead limit e) (every (isRead limit) ss) all .0
+
+    newest-flag : IsFlag (e .flag)
+    unfolding isRead
+    newest-flag = small (e .flag) (leb-true (e .flag) 1 (flag-bound limit e (both (isStanding e || (isWithdrawn e || isHeld e)) (isBody limit e) newest-read .1)))
+
+    only-flag : ss ≡ [] → e .flag ≡ 0
+    unfolding opensRight
+    only-flag none =
+        let opens : opensRight (e ∷ []) ≡ true = rw (stands, none) at (clauses .opens) in
+        eqb-true (e .flag) 0 (both (isOpening (e .letter)) (eqb (e .flag) 0) opens .1)
+
+-- ---- the number that a call answers is that of its checks
+module _ (dials capacity : ℕ) (area : List ℕ) where
+  abbrev enrolNumber : ℕ
+  enrolNumber = firstBroken (enrolChecks dials capacity area)
+
+  enrol-number : numberOf (enrolIn dials capacity area .reply) ≡ enrolNumber
+  unfolding enrolIn numberOf
+  enrol-number = by-test (eqb enrolNumber accepted) (λ h. rw h (sym (eqb-true enrolNumber accepted h))) (λ h. rw h)
+
+module _ (s : Submission) (area : List ℕ) where
+  abbrev submitNumber : ℕ
+  submitNumber = firstBroken (submitChecks s area)
+
+  submit-number : numberOf (submitIn s area .reply) ≡ submitNumber
+  unfolding submitIn numberOf
+  submit-number =
+      by-test (eqb submitNumber accepted)
+      (λ h. rw h (sym (eqb-true submitNumber accepted h)))
+      (λ h. by-test (isVolumeQuery submitNumber) (λ q. rw (h, q)) (λ q. rw (h, q)))
+
+module _ (day value : ℕ) (area : List ℕ) where
+  abbrev withdrawNumber : ℕ
+  withdrawNumber = firstBroken (withdrawChecks day value area)
+
+  answer-number : (n : ℕ) (last second : Slot) → withdrawnAnswer n last second .number ≡ accepted
+  unfolding withdrawnAnswer
+  answer-number n (Read e) second = refl
+  answer-number n Empty second = refl
+
+  withdraw-number : numberOf (withdrawIn day value area .reply) ≡ withdrawNumber
+  unfolding withdrawIn numberOf
+  withdraw-number =
+      by-test (eqb withdrawNumber accepted)
+      (λ h. rw h (answer-number (journalOf area .dials) _ _ ∙ sym (eqb-true withdrawNumber accepted h)))
+      (λ h. rw h)
+
+-- ---- what the accepted calls do
+module _ (place dials capacity : ℕ) (area : List ℕ) (size : length area ≡ areaBytes) where
+  known-enrol : numberOf (act (Enrol place dials capacity) area .reply) ≡ accepted → Enrolled dials area (act (Enrol place dials capacity) area .area)
+  unfolding act those enrolChecks
+  known-enrol h =
+      let number : enrolNumber dials capacity area ≡ accepted = sym (enrol-number dials capacity area) ∙ h in
+      let e = enrolment dials capacity area size number in
+      let u = unbroken 2 accepted (enrolChecks dials capacity area) refl number .0 in
+      record {
+        zero = not-false (allZero area) (u .0);
+        sound = e .sound;
+        dials-are = ap (λ (j : Journal). j .dials) (e .journal);
+        none = ap (λ (j : Journal). standing (j .entries)) (e .journal);
+      }
+
+module _ (place : ℕ) (s : Submission) (area : List ℕ) (size : length area ≡ areaBytes) where
+  abbrev after : Acted
+  after = act (Submit place s) area
+
+  known-submit : numberOf (after .reply) ≡ accepted → Submitted s area (after .area) (after .reply)
+  unfolding act submitIn entryFor
+  known-submit h =
+      let number : submitNumber s area ≡ accepted = sym (submit-number s area) ∙ h in
+      let w = submission s area size number in
+      let more = accepted-standing s area size number in
+      record {
+        was-sound = accepted-checked s area number .sound;
+        sound = w .sound;
+        dials-are = ap (λ (j : Journal). j .dials) (w .journal);
+        one-more = more;
+        same-withdrawn = accepted-withdrawn s area size number;
+        flag = newest-flag (after .area) (w .sound) _ _ more;
+        first-flag = only-flag (after .area) (w .sound) _ _ more;
+        replied = rw (eq-eqb (submitNumber s area) accepted number);
+      }
+
+  known-hold : (numberOf (after .reply) ≡ accepted → ⊥) → mayChange (numberOf (after .reply)) ≡ true → Held area (after .area)
+  unfolding act mayChange
+  known-hold never h =
+      let refused : eqb (submitNumber s area) accepted ≡ false = ne-eqb (submitNumber s area) accepted (λ e. never (submit-number s area ∙ e)) in
+      let query : isVolumeQuery (submitNumber s area) ≡ true = rw (submit-number s area, refused) at h in
+      let w = volume-query s area size query in
+      record {
+        was-sound = query-passed s area query .sound;
+        sound = w .sound;
+        dials-are = ap (λ (j : Journal). j .dials) (w .journal);
+        same-standing = query-standing s area size query;
+        same-withdrawn = query-withdrawn s area size query;
+      }
+
+module _ (place day value : ℕ) (area : List ℕ) (size : length area ≡ areaBytes) where
+  abbrev n : ℕ
+  n = journalOf area .dials
+
+  withdraw-reply : withdrawNumber day value area ≡ accepted → withdrawIn day value area .reply ≡ Answered (withdrawnAnswer n (slotAt (standingIn area) 0) (slotAt (standingIn area) 1))
+  unfolding withdrawIn
+  withdraw-reply h = rw (eq-eqb (withdrawNumber day value area) accepted h)
+
+  last-answer : (r : Entry) {ss : List Entry} → standingIn area ≡ r ∷ ss → withdrawnAnswer n (slotAt (standingIn area) 0) (slotAt (standingIn area) 1) ≡ answer accepted (r .flag) (negℤ (advanceOver n (r .value) (r .flag) (slotAt ss 0)))
+  unfolding withdrawnAnswer slotAt
+  last-answer r e = rw e
+
+  known-withdraw : numberOf (act (Withdraw place day value) area .reply) ≡ accepted → Withdrew day value area (act (Withdraw place day value) area .area) (act (Withdraw place day value) area .reply)
+  unfolding act
+  known-withdraw h =
+      let number : withdrawNumber day value area ≡ accepted = sym (withdraw-number day value area) ∙ h in
+      let w = withdrawal-in day value area size number in
+      let sound = can-withdraw day value area number .sound in
+      record {
+        last = w .read;
+        was-sound = sound;
+        sound = w .sound;
+        dials-are = ap (λ (j : Journal). j .dials) (w .journal);
+        one-less = w .stood;
+        names-it = w .named;
+        flag = newest-flag area sound (w .read) _ (w .stood);
+        first-flag = only-flag area sound (w .read) _ (w .stood);
+        keeps = still-withdrawn day value area _ w;
+        has = now-withdrawn day value area _ w;
+        replied = withdraw-reply number ∙ ap Answered (last-answer (w .read) (w .stood));
+      }
+
+-- ---- all of them
+empty-entries : (area : List ℕ) → allZero area ≡ true → journalOf area .entries ≡ []
+unfolding entriesTo every
+empty-entries area zero = entries-are 0 0 area (omega arith) refl (zero-past area 0 (entryStart 0) (omega arith) zero)
+
+-- a refused call leaves the area; so does a report
+by-number : (number : ℕ) {answered : ℕ} → answered ≡ number → (answered ≡ accepted → ⊥) → eqb number accepted ≡ false
+by-number number e never = ne-eqb number accepted (λ h. never (e ∙ h))
+
+submit-left : (s : Submission) (area : List ℕ) → mayChange (numberOf (submitIn s area .reply)) ≡ false → submitIn s area .area ≡ area
+unfolding mayChange
+submit-left s area h =
+    let number = submitNumber s area in
+    let none : eqb number accepted || isVolumeQuery number ≡ false = rw (submit-number s area) at h in
+    let each = neither (eqb number accepted) (isVolumeQuery number) none in
+    submit-unchanged s area (each .0) (each .1)
+
+kept-size : {before after : List ℕ} → after ≡ before → length before ≡ areaBytes → length after ≡ areaBytes
+kept-size e size = ap length e ∙ size
+
+size-after : (call : Call) (area : List ℕ) → length area ≡ areaBytes → length (act call area .area) ≡ areaBytes
+unfolding act
+size-after (Enrol place dials capacity) area size =
+    by-test (eqb (enrolNumber dials capacity area) accepted)
+    (λ h. enrolment dials capacity area size (eqb-true _ _ h) .size)
+    (λ h. kept-size (enrol-unchanged dials capacity area h) size)
+size-after (Submit place s) area size =
+    by-test (eqb (submitNumber s area) accepted)
+    (λ h. submission s area size (eqb-true _ _ h) .size)
+    (λ h.
+    by-test (isVolumeQuery (submitNumber s area))
+    (λ q. volume-query s area size q .size)
+    (λ q. kept-size (submit-unchanged s area h q) size))
+size-after (Withdraw place day value) area size =
+    by-test (eqb (withdrawNumber day value area) accepted)
+    (λ h. withdrawal-in day value area size (eqb-true _ _ h) .size)
+    (λ h. kept-size (withdraw-unchanged day value area h) size)
+size-after (Ask place) area size = kept-size (report-unchanged area) size
+
+pub effects : Effects
+unfolding act
+effects =
+    record {
+      apart = λ area zero sound. not-zero area sound zero;
+      empty = empty-entries;
+      none-clash = λ area sound. clauses area sound .apart;
+      few-dials = dials-few;
+      enrol = known-enrol;
+      submit = known-submit;
+      hold = known-hold;
+      withdraw = known-withdraw;
+      enrol-refused = λ place dials capacity area h. enrol-unchanged dials capacity area (by-number _ (enrol-number dials capacity area) h);
+      submit-refused = λ place s area h. submit-left s area h;
+      withdraw-refused = λ place day value area h. withdraw-unchanged day value area (by-number _ (withdraw-number day value area) h);
+      ask = λ place area. report-unchanged area;
+      size = size-after;
+    }
+
+-- ---- the frame: a number that may not come with a change came with none
+never-accepted : (number : ℕ) → mayChange number ≡ false → number ≡ accepted → ⊥
+unfolding mayChange
+never-accepted number h = eqb-false number accepted (neither (eqb number accepted) (isVolumeQuery number) h .0)
+
+unchanged : (call : Call) (area : List ℕ) → mayChange (numberOf (act call area .reply)) ≡ false → act call area .area ≡ area
+unchanged (Enrol place dials capacity) area h = effects .enrol-refused place dials capacity area (never-accepted _ h)
+unchanged (Submit place s) area h = effects .submit-refused place s area h
+unchanged (Withdraw place day value) area h = effects .withdraw-refused place day value area (never-accepted _ h)
+unchanged (Ask place) area h = effects .ask place area
+
+pub local : Local
+local = record { size = effects .size; unchanged = unchanged }

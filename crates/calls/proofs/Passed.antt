@@ -1,0 +1,197 @@
+-- What a submission that passes its checks is known to be: a good body, later than the last standing read, and of a type that may stand or be held.
+use mathlib.Core.Path.{_≡_, refl, ap}
+use mathlib.Core.Bool.{Bool, true, false, not, cond, _&&_, _||_}
+use mathlib.Core.List.{List, [], _∷_}
+use Prim.Native.Nat.{ℕ, _≤_}
+use native.Mathlib.Omega.{arith}
+use borrow.Author.Tests.{eqb-false, ltb-false, leb-false, lt-ltb, le-leb, eq-eqb, not-true, not-false}
+use lib.Dec.{eqb, leb, ltb}
+use lib.ListN.{take, drop}
+use Rattle.arithmetic.specs.Powers.{tenTo}
+use Rattle.terms.specs.declared.entry.Entry.{Entry}
+use Rattle.terms.specs.declared.entry.Slot.{Slot}
+use Rattle.terms.specs.declared.entry.Slot.the-variants.{Read, Empty}
+use Rattle.terms.specs.declared.entry.Recent.{Recent}
+use Rattle.terms.specs.declared.submission.Submission.{Submission}
+use Rattle.terms.specs.Letter.{letterI, letterO, letterF, letterC, letterU, letterR, letterT, letterS, letterX, letterY, letterE, isKnown, isOpening, isFinal, isHoldable, isUnchecked}
+use Rattle.terms.specs.Rule.{firstBroken}
+use Rattle.terms.specs.Entry.{kindStanding, those, slotAt, recentOf, indicatorNotSet, indicatorFalse, indicatorTrue}
+use Rattle.rules.specs.declared.detection.Detected.{Detected}
+use Rattle.rules.specs.declared.detection.Detected.the-variants.{NotRollover, Rollover, Indeterminate}
+use Rattle.rules.specs.Detection.{isNotRollover, detected}
+use Rattle.rules.specs.Indicator.{indicated, indicatedFlag}
+use Rattle.rules.specs.Volume.{hasVolumeCheck, hasThreshold, isBelowThreshold, isAboveThreshold, isLowVolume, isHighVolume}
+use Rattle.journal.specs.Journal.{Journal, journalOf, standing}
+use Rattle.journal.specs.Sound.{any, isBody, isFinalRead, exists, isSound}
+use Rattle.journal.specs.Survey.{isThere, onDay, isAfter, mayStand}
+use Rattle.calls.specs.Checks.{isBadContent, isBadDate, isWithdrawnRead, isBackDated, isUnopened, isATLater, isOpeningIndicated, isFull, indicatedIn, takenFlag, recent, sameDay, submitRules, submitChecks}
+use Rattle.calls.specs.Calls.{entryFor}
+use Rattle.calls.proofs.Bools.{both, together, neither, either-of, right-or, apart, by-test}
+use Rattle.calls.proofs.Broken.{unbroken, haveOthers}
+
+-- ---- the rules before those of volume
+pub record Passed (s : Submission) (j : Journal) : Type 0 where
+  pub content : isBadContent (j .dials) s ≡ false
+  pub date : isBadDate s ≡ false
+  pub fresh : isWithdrawnRead s (j .entries) ≡ false
+  pub own-day : isThere (sameDay s j) ≡ false
+  pub later : isBackDated s (slotAt (standing (j .entries)) 0) ≡ false
+  pub opened : isUnopened s (standing (j .entries)) ≡ false
+  pub once : isATLater s (standing (j .entries)) ≡ false
+  pub plain : isOpeningIndicated s ≡ false
+  pub room : isFull (j .entries) ≡ false
+
+-- how many rules there are before those of volume
+abbrev pub beforeVolume : ℕ
+beforeVolume = 18
+
+-- a number of none of them
+pub record Checked (s : Submission) (a : List ℕ) (number : ℕ) : Type 0 where
+  pub sound : isSound a ≡ true
+  pub passed : Passed s (journalOf a)
+  pub volume : firstBroken (drop beforeVolume (submitChecks s a)) ≡ number
+
+pub checked : (s : Submission) (a : List ℕ) (number : ℕ) → haveOthers number (take beforeVolume (submitChecks s a)) ≡ true → firstBroken (submitChecks s a) ≡ number → Checked s a number
+unfolding submitChecks submitRules recentOf
+checked s a number o h =
+    let u = unbroken beforeVolume number (submitChecks s a) o h in
+    let u₃ = u .0 .1 .1 .1 in
+    let u₉ = u₃ .1 .1 .1 .1 .1 .1 in
+    record {
+      sound = not-false _ (u .0 .1 .0);
+      passed = record {
+        content = u₃ .0;
+        date = u₃ .1 .0;
+        fresh = u₃ .1 .1 .0;
+        own-day = u₉ .0;
+        later = u₉ .1 .0;
+        opened = u₉ .1 .1 .0;
+        once = u₉ .1 .1 .1 .0;
+        plain = u₉ .1 .1 .1 .1 .0;
+        room = u₉ .1 .1 .1 .1 .1 .1 .0;
+      };
+      volume = u .1;
+    }
+
+-- ---- the flag that the read is taken with
+taken-at-most : (d : Detected) (indicator : ℕ) → leb (indicatedFlag (indicated d indicator)) 1 ≡ true
+unfolding indicated indicatedFlag
+taken-at-most Rollover i = by-test (eqb i indicatorFalse) (λ t. rw t) (λ t. rw t)
+taken-at-most NotRollover i = by-test (eqb i indicatorTrue) (λ t. rw t) (λ t. rw t)
+taken-at-most Indeterminate i = by-test (eqb i indicatorNotSet) (λ t. rw t) (λ t. rw t (word-at-most (eqb i indicatorTrue)))
+  where
+    word-at-most : (b : Bool) → leb (cond b 1 0) 1 ≡ true
+    word-at-most true = refl
+    word-at-most false = refl
+
+taken-plain : (indicator : ℕ) → indicatedFlag (indicated NotRollover indicator) ≡ 0
+unfolding indicated indicatedFlag
+taken-plain i = by-test (eqb i indicatorTrue) (λ t. rw t) (λ t. rw t)
+
+-- where no read stands it is 0
+taken-first : (s : Submission) (j : Journal) → standing (j .entries) ≡ [] → takenFlag s j ≡ 0
+unfolding indicatedIn detected isNotRollover recentOf slotAt
+taken-first s j h = rw h (taken-plain (s .indicator))
+
+-- ---- the body
+opening-plain : (x y : Bool) → x && not y ≡ false → not x || y ≡ true
+opening-plain true y h = not-false y h
+opening-plain false y h = refl
+
+module _ (s : Submission) (j : Journal) (p : Passed s j) where
+  pub good-body : (kind : ℕ) → isBody (tenTo (j .dials)) (entryFor kind s (takenFlag s j)) ≡ true
+  unfolding isBody entryFor isBadContent isBadDate isOpeningIndicated indicatedIn
+  good-body kind =
+      let c₁ = neither (not (isKnown (s .letter))) _ (p .content) in
+      let c₂ = neither (ltb indicatorTrue (s .indicator)) _ (c₁ .1) in
+      let c₃ = neither (ltb 1 (s .reread)) _ (c₂ .1) in
+      together (ap not (neither (eqb (s .day) 0) _ (p .date) .0))
+      (together (lt-ltb (s .value) (tenTo (j .dials)) (leb-false _ _ (c₃ .1)))
+      (together (not-false (isKnown (s .letter)) (c₁ .0))
+      (together (le-leb (s .indicator) indicatorTrue (ltb-false _ _ (c₂ .0)))
+      (together (taken-at-most (detected (j .dials) s (recentOf (standing (j .entries)))) (s .indicator))
+      (opening-plain (isOpening (s .letter)) (eqb (s .indicator) indicatorNotSet) (p .plain))))))
+
+  pub known : isKnown (s .letter) ≡ true
+  unfolding isBadContent
+  known = not-false (isKnown (s .letter)) (neither (not (isKnown (s .letter))) _ (p .content) .0)
+
+  pub one-final : not (isFinal (s .letter) && any isFinalRead (standing (j .entries))) ≡ true
+  unfolding isATLater
+  one-final = ap not (neither (isOpening (s .letter) && exists (standing (j .entries))) _ (p .once) .1)
+
+-- ---- it comes after the last standing read
+day-after : (s : Submission) (r : Entry) (ss : List Entry) → isBackDated s (slotAt (r ∷ ss) 0) ≡ false → isThere (onDay (s .day) (r ∷ ss)) ≡ false → ltb (r .day) (s .day) ≡ true
+unfolding isBackDated slotAt onDay isThere
+day-after s r ss b d =
+    by-test (eqb (r .day) (s .day))
+    (λ t. absurd (apart refl (rw t at d)))
+    (λ t.
+    let ne : r .day ≡ s .day → ⊥ = eqb-false _ _ t in
+    let l : r .day ≤ s .day = ltb-false _ _ b in
+    lt-ltb (r .day) (s .day) (omega arith))
+
+and-true-false : (x : Bool) → x && true ≡ false → x ≡ false
+and-true-false true h = h
+and-true-false false h = refl
+
+module _ (s : Submission) (j : Journal) (p : Passed s j) where
+  pub may-stand : (ss : List Entry) → standing (j .entries) ≡ ss → mayStand (entryFor kindStanding s (takenFlag s j)) (slotAt ss 0) ≡ true
+  unfolding mayStand entryFor slotAt isUnopened isATLater exists
+  may-stand [] st =
+      let o : not (isOpening (s .letter)) ≡ false = rw st at (p .opened) in
+      together (not-false (isOpening (s .letter)) o) (eq-eqb _ 0 (taken-first s j st))
+  may-stand (r ∷ ss) st =
+      let later : isBackDated s (slotAt (r ∷ ss) 0) ≡ false = rw st at (p .later) in
+      let day : isThere (onDay (s .day) (r ∷ ss)) ≡ false = rw st at (p .own-day) in
+      let once : isOpening (s .letter) && true || isFinal (s .letter) && any isFinalRead (r ∷ ss) ≡ false = rw st at (p .once) in
+      together (day-after s r ss later day)
+      (ap not (and-true-false (isOpening (s .letter)) (neither (isOpening (s .letter) && true) _ once .0)))
+
+-- ---- a volume query: the type may be held, and a read stands before it
+holdable-if : (f c u r t s x e : Bool) → f || (c || (u || (r || (t || (s || (x || e)))))) ≡ true → c || (u || (r || (t || (s || (f || (x || e)))))) ≡ true
+holdable-if true c u r t s x e h = right-or c (right-or u (right-or r (right-or t (right-or s refl))))
+holdable-if false c u r t s x e h = h
+
+pub known-holdable : (l : ℕ) → isKnown l ≡ true → isUnchecked l ≡ false → isHoldable l ≡ true
+unfolding isKnown isUnchecked isHoldable
+known-holdable l k u =
+    let u₁ = neither (eqb l letterI) _ u in
+    let u₂ = neither (eqb l letterO) (eqb l letterY) (u₁ .1) in
+    holdable-if (eqb l letterF) (eqb l letterC) (eqb l letterU) (eqb l letterR) (eqb l letterT) (eqb l letterS) (eqb l letterX) (eqb l letterE)
+    (rw (u₁ .0, u₂ .0, u₂ .1) at k)
+
+module _ (s : Submission) (n flag : ℕ) where
+  threshold-checked : (y : Bool) → hasThreshold s && y ≡ true → isUnchecked (s .letter) ≡ false
+  unfolding hasThreshold hasVolumeCheck
+  threshold-checked y h = not-true _ (both (not (isUnchecked (s .letter))) _ (both (hasThreshold s) y h .0) .0)
+
+  low-exists : (last second : Slot) → isBelowThreshold n s flag last second ≡ true → isThere last ≡ true
+  unfolding isBelowThreshold isThere
+  low-exists Empty second h = h
+  low-exists (Read r) second h = refl
+
+  high-exists : (last second : Slot) → isAboveThreshold n s flag last second ≡ true → isThere last ≡ true
+  unfolding isAboveThreshold isThere
+  high-exists Empty second h = h
+  high-exists (Read r) second h = refl
+
+  -- either query
+  abbrev pub IsQuery : Recent → Type 0
+  IsQuery recent = isLowVolume n s flag recent || isHighVolume n s flag recent ≡ true
+
+  pub query-checked : (recent : Recent) → IsQuery recent → isUnchecked (s .letter) ≡ false
+  unfolding isLowVolume isHighVolume
+  query-checked recent h = either-of (isLowVolume n s flag recent) _ h (threshold-checked _) (threshold-checked _)
+
+  pub query-exists : (recent : Recent) → IsQuery recent → isThere (recent .last) ≡ true
+  unfolding isLowVolume isHighVolume
+  query-exists recent h =
+      either-of (isLowVolume n s flag recent) _ h
+      (λ t. low-exists (recent .last) (recent .second) (both (hasThreshold s) _ t .1))
+      (λ t. high-exists (recent .last) (recent .second) (both (hasThreshold s) _ t .1))
+
+pub is-after : (s : Submission) (e : Entry) (ss : List Entry) → e .day ≡ s .day → isBackDated s (slotAt ss 0) ≡ false → isThere (onDay (s .day) ss) ≡ false → isThere (slotAt ss 0) ≡ true → isAfter e (slotAt ss 0) ≡ true
+unfolding slotAt isThere isAfter
+is-after s e [] q b d t = t
+is-after s e (r ∷ ss) q b d t = rw q (day-after s r ss b d)

@@ -1,0 +1,23 @@
+-- 01, The register: an area is all zero or sound, and "Anything else non-zero is damaged." No call damages one.
+use mathlib.Core.Path.{_≡_}
+use mathlib.Core.Bool.{Bool, true, _||_}
+use mathlib.Core.List.{List}
+use Prim.Native.Nat.{ℕ}
+use lib.ListN.{length}
+use Rattle.register.specs.Area.{areaBytes}
+use Rattle.journal.specs.Journal.{allZero}
+use Rattle.journal.specs.Sound.{isSound}
+use Rattle.calls.specs.declared.call.Call.{Call}
+use Rattle.calls.specs.Calls.{act}
+
+-- all zero ("not enrolled") or sound
+unfoldable pub isGood : List ℕ → Bool
+isGood a = allZero a || isSound a
+
+pub record GoodArea (a : List ℕ) : Type 0 where
+  pub size : length a ≡ areaBytes
+  pub good : isGood a ≡ true
+
+-- THE CLAIM
+unfoldable pub CallsKeepAreas : Type 0
+CallsKeepAreas = (call : Call) (a : List ℕ) → GoodArea a → GoodArea (act call a .area)

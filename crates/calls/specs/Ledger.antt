@@ -1,0 +1,123 @@
+-- 01, The two runs of demand 3: what is worked out from a meter's calls and the answers to them, and not from the register.
+use mathlib.Core.Bool.{Bool, true, false, not, _&&_, _||_}
+use mathlib.Core.List.{List, [], _∷_}
+use Prim.Native.Nat.{ℕ}
+use lib.Dec.{eqb}
+use lib.IntN.{ℤ, pos, _+ℤ_, _-ℤ_}
+use Rattle.terms.specs.declared.answer.Answer.{Answer}
+use Rattle.terms.specs.Number.{accepted}
+use Rattle.calls.specs.declared.call.Call.{Call}
+use Rattle.calls.specs.declared.call.Call.the-variants.{Enrol, Submit, Withdraw, Ask}
+use Rattle.calls.specs.declared.call.Reply.{Reply}
+use Rattle.calls.specs.declared.call.Reply.the-variants.{Answered, Reported}
+use Rattle.calls.specs.Play.{Exchange, numberOf, names}
+
+-- a read by its day and value
+pub record Named : Type 0 where
+  pub day : ℕ
+  pub value : ℕ
+
+abbrev pub named : ℕ → ℕ → Named
+named day value = record { day = day; value = value }
+
+unfoldable pub isSame : Named → Named → Bool
+isSame a b = eqb (a .day) (b .day) && eqb (a .value) (b .value)
+
+abbrev pub pickReads : Bool → List Named → List Named → List Named
+pickReads true a b = a
+pickReads false a b = b
+
+-- "takes out the read of its day and value"
+unfoldable pub takeOut : Named → List Named → List Named
+takeOut r [] = []
+takeOut r (s ∷ ss) = pickReads (isSame r s) ss (s ∷ takeOut r ss)
+
+-- What a meter's accepted calls come to. The lists have the newest first, so that the paper's end of a list is its front.
+pub record Ledger : Type 0 where
+  -- "A meter's standing reads after a run"
+  pub standing : List Named
+  -- "the advances answered to the meter's accepted submissions and withdrawals"
+  pub advances : ℤ
+  -- "accepted submissions flagged rollover less accepted withdrawals so flagged"
+  pub flags : ℤ
+  -- "n is from the meter's accepted enrolment"
+  pub dials : ℕ
+  -- the day and value that each accepted withdrawal named
+  pub withdrawn : List Named
+
+-- "It starts empty."
+unfoldable pub emptyLedger : Ledger
+emptyLedger = record { standing = []; advances = pos 0; flags = pos 0; dials = 0; withdrawn = [] }
+
+abbrev pub pickNumber : Bool → ℤ → ℤ → ℤ
+pickNumber true a b = a
+pickNumber false a b = b
+
+-- "flagged means answered with flag 1"
+unfoldable pub flagOf : Answer → ℤ
+flagOf a = pickNumber (eqb (a .flag) 1) (pos 1) (pos 0)
+
+-- "An accepted submission puts its day and value at the end. An accepted withdrawal takes out the read of its day and value."
+unfoldable pub entered : Call → Reply → Ledger → Ledger
+entered (Enrol place dials capacity) reply l =
+    record {
+      standing = l .standing;
+      advances = l .advances;
+      flags = l .flags;
+      dials = dials;
+      withdrawn = l .withdrawn;
+    }
+entered (Submit place s) (Answered a) l =
+    record {
+      standing = named (s .day) (s .value) ∷ l .standing;
+      advances = l .advances +ℤ a .advance;
+      flags = l .flags +ℤ flagOf a;
+      dials = l .dials;
+      withdrawn = l .withdrawn;
+    }
+entered (Submit place s) (Reported r) l = l
+entered (Withdraw place day value) (Answered a) l =
+    record {
+      standing = takeOut (named day value) (l .standing);
+      advances = l .advances +ℤ a .advance;
+      flags = l .flags -ℤ flagOf a;
+      dials = l .dials;
+      withdrawn = named day value ∷ l .withdrawn;
+    }
+entered (Withdraw place day value) (Reported r) l = l
+entered (Ask place) reply l = l
+
+-- "Accepted means answered 0", here at this meter
+unfoldable pub isAccepted : ℕ → Exchange → Bool
+isAccepted meter x = names meter (x .call) && eqb (numberOf (x .reply)) accepted
+
+abbrev pub pickLedger : Bool → Ledger → Ledger → Ledger
+pickLedger true a b = a
+pickLedger false a b = b
+
+-- "Any other call, and any answer but 0 (19 and 20 too), changes nothing."
+unfoldable pub ledgerAfter : ℕ → List Exchange → Ledger → Ledger
+ledgerAfter meter [] l = l
+ledgerAfter meter (x ∷ xs) l = ledgerAfter meter xs (pickLedger (isAccepted meter x) (entered (x .call) (x .reply) l) l)
+
+unfoldable pub ledgerOf : ℕ → List Exchange → Ledger
+ledgerOf meter xs = ledgerAfter meter xs emptyLedger
+
+-- "First and last are the two ends; of one read they are the same."
+unfoldable pub firstValueOf : Named → List Named → ℕ
+firstValueOf s [] = s .value
+firstValueOf s (t ∷ ss) = firstValueOf t ss
+
+-- "its last standing value minus its first (0 if none stands)"
+unfoldable pub lastLessFirst : List Named → ℤ
+lastLessFirst [] = pos 0
+lastLessFirst (s ∷ ss) = pos (s .value) -ℤ pos (firstValueOf s ss)
+
+unfoldable pub isAmong : Named → List Named → Bool
+isAmong r [] = false
+isAmong r (s ∷ ss) = isSame r s || isAmong r ss
+
+-- no read of the first list is in the second
+unfoldable pub areNoneOf : List Named → List Named → Bool
+areNoneOf [] others = true
+areNoneOf (r ∷ rs) others = not (isAmong r others) && areNoneOf rs others

@@ -1,0 +1,62 @@
+-- 01, The two runs of demand 3: a list of calls played on a register, "each call on what the last one left".
+use mathlib.Core.Bool.{Bool, true, false, _&&_, _||_}
+use mathlib.Core.List.{List, [], _∷_}
+use Prim.Native.Nat.{ℕ}
+use lib.Dec.{eqb}
+use lib.ListN.{replicate}
+use Rattle.terms.specs.Number.{accepted, low, high}
+use Rattle.register.specs.Area.{registerBytes}
+use Rattle.calls.specs.declared.call.Call.{Call}
+use Rattle.calls.specs.declared.call.Reply.{Reply}
+use Rattle.calls.specs.declared.call.Reply.the-variants.{Answered, Reported}
+use Rattle.calls.specs.Calls.{placeOf, step}
+
+-- a call and the reply to it
+pub record Exchange : Type 0 where
+  pub call : Call
+  pub reply : Reply
+
+abbrev pub exchange : Call → Reply → Exchange
+exchange call reply = record { call = call; reply = reply }
+
+-- "Each call gets the register as the call before it left it, and nothing else writes it meanwhile."
+unfoldable pub exchanges : List Call → List ℕ → List Exchange
+exchanges [] register = []
+exchanges (call ∷ calls) register =
+    exchange call (step call register .reply) ∷ exchanges calls (step call register .register)
+
+unfoldable pub registerAfter : List Call → List ℕ → List ℕ
+registerAfter [] register = register
+registerAfter (call ∷ calls) register = registerAfter calls (step call register .register)
+
+-- "32,768 zero bytes"
+unfoldable pub zeroRegister : List ℕ
+zeroRegister = replicate registerBytes 0
+
+unfoldable pub numberOf : Reply → ℕ
+numberOf (Answered a) = a .number
+numberOf (Reported r) = r .number
+
+-- "a call names it by its place"
+unfoldable pub names : ℕ → Call → Bool
+names meter call = eqb (placeOf call) meter
+
+-- 0, 19 and 20: the numbers that may come with a change
+unfoldable pub mayChange : ℕ → Bool
+mayChange number = eqb number accepted || (eqb number low || eqb number high)
+
+-- "only the calls that name this meter and that A answered 0, 19 or 20"
+unfoldable pub isPicked : ℕ → Exchange → Bool
+isPicked meter x = names meter (x .call) && mayChange (numberOf (x .reply))
+
+abbrev pub exchangeIf : Bool → Exchange → List Exchange → List Exchange
+exchangeIf true x xs = x ∷ xs
+exchangeIf false x xs = xs
+
+unfoldable pub picked : ℕ → List Exchange → List Exchange
+picked meter [] = []
+picked meter (x ∷ xs) = exchangeIf (isPicked meter x) x (picked meter xs)
+
+unfoldable pub callsOf : List Exchange → List Call
+callsOf [] = []
+callsOf (x ∷ xs) = x .call ∷ callsOf xs

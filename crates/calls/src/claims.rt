@@ -1,0 +1,13 @@
+// What holds of the calls' definitions, as promises of functions that do nothing. The contracts of the calls cite the same definitions.
+ghost use Rattle.calls.specs.DemandThree.{DemandThree};
+ghost use Rattle.calls.specs.Kept.{CallsKeepAreas};
+
+// No call damages an area: one that is all zero or sound stays so.
+pub fn calls_keep_areas()
+    ensures { λ _. ⌜ CallsKeepAreas ⌝ }
+{}
+
+// Demand 3, for every list of calls and every meter.
+pub fn demand_three()
+    ensures { λ _. ⌜ DemandThree ⌝ }
+{}

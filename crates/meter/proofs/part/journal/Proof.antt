@@ -1,0 +1,90 @@
+-- A length that is not 0 is that of a journal's entries, so the part lies within the place's area.
+use mathlib.Core.Path.{_≡_, refl, _∙_}
+use mathlib.Core.Bool.{Bool, true, false}
+use mathlib.Core.List.{List}
+use mathlib.Core.Logic.{_≢_}
+use Prim.Native.Nat.{ℕ, _+_, _*_, _-_, _≤_, _<_}
+use native.Mathlib.Omega.{arith}
+use borrow.Author.Tests.{eqb-true}
+use lib.Dec.{eqb}
+use lib.ListN.{length}
+use Rattle.terms.specs.Number.{accepted}
+use Rattle.terms.specs.Rule.{firstBroken, numberIf}
+use Rattle.register.specs.Area.{areaBytes, areas, areaOf}
+use Rattle.register.specs.Entries.{entryStart}
+use Rattle.journal.specs.Journal.{entryCount}
+use Rattle.journal.proofs.Entries.{count-at-most}
+use Rattle.calls.specs.Checks.{reportChecks}
+use Rattle.calls.specs.Calls.{placeNumber, journalLength, journalPart}
+use Rattle.meter.proofs.Placed.{placed}
+use borrow.Author.Needs.{needs}
+use Rattle.meter.proofs.part.journal.Statement.{statement}
+use Rattle.meter.proofs.part.journal.Tie as tie
+
+some : (placed reported : Bool) (n : ℕ) → numberIf placed (numberIf reported n 0) 0 ≢ 0 → (placed ≡ true) × (numberIf placed (numberIf reported n 0) 0 ≡ n)
+some true true n h = (refl, refl)
+some true false n h = absurd (h refl)
+some false reported n h = absurd (h refl)
+
+within : (p : ℕ) (register : List ℕ) {size : ℕ} → size ≡ journalLength p register → size ≢ 0 → (areaBytes * p + size ≤ length register) × (p < areas) × (size ≤ areaBytes)
+unfolding journalLength
+within p register e h =
+    let area = areaOf p register in
+    let s = some (eqb (placeNumber p register) accepted) (eqb (firstBroken (reportChecks area)) accepted) (entryStart (entryCount area)) (λ z. h (e ∙ z)) in
+    let there = placed p register refl (eqb-true _ _ (s .0)) in
+    omega (arith, there, e, s .1, count-at-most area)
+
+journal-length-requires : tie.Need-journal-length-requires
+journal-length-requires c κs = search needs
+
+sub-result : tie.Need-sub-result
+sub-result c = search needs
+
+part-result-start : tie.Need-part-result-start
+part-result-start c = search needs
+
+part-result-end : tie.Need-part-result-end
+part-result-end c = search needs
+
+returns : tie.Need-returns
+unfolding journalPart
+returns c = rw (← c .before .before .journal-length .ensures, c .before .if1 .taken)
+
+mul-from : tie.Need-mul-from
+mul-from c = search needs
+
+add-to : tie.Need-add-to
+add-to c = omega (arith, within _ _ (c .before .journal-length .ensures) (c .if1 .left))
+
+sub-result-2 : tie.Need-sub-result-2
+sub-result-2 c = search needs
+
+part-result-start-2 : tie.Need-part-result-start-2
+part-result-start-2 c = search needs
+
+part-result-end-2 : tie.Need-part-result-end-2
+part-result-end-2 c = omega (arith, within _ _ (c .before .journal-length .ensures) (c .if1 .left))
+
+returns-2 : tie.Need-returns-2
+unfolding journalPart
+returns-2 c =
+    let p = c .before .before .before .before .args .place in
+    let size = c .before .before .journal-length .result in
+    let same : areaBytes * p + size - areaBytes * p ≡ size = omega arith in
+    rw (same, ← c .before .before .journal-length .ensures)
+
+pub journal-spec : {M : Type 1} → statement M
+journal-spec =
+    tie.close
+    (tie.spec
+    journal-length-requires
+    sub-result
+    part-result-start
+    part-result-end
+    returns
+    mul-from
+    add-to
+    sub-result-2
+    part-result-start-2
+    part-result-end-2
+    returns-2)

@@ -1,7 +1,0 @@
-pub mod Frame
-pub mod Totals
-pub mod Names
-pub mod Effects
-pub mod Invariant
-pub mod Chains
-pub mod Known
