@@ -148,12 +148,15 @@ fn a_reconnection_has_no_volume_check() {
     assert_eq!(submit(&mut register, 0, read(202, b'C', 2001)).number, Number::Low);
 }
 
-/// The flag of the last read counts in the advance that a new one is compared with.
+/// The flag of the last read counts in the advance that a new one is compared with: without it the last advance would be
+/// negative, and there would be no limit.
 #[test]
 fn the_last_flag_counts_in_the_threshold() {
     let mut register = with_reads(5000, &[(100, b'I', 9400), (280, b'C', 9600), (460, b'C', 9800)]);
     assert_eq!(submit(&mut register, 0, read(640, b'C', 50)), taken(1, 250));
-    assert_eq!(submit(&mut register, 0, read(820, b'C', 250)), taken(0, 200));
-    let expected = Report { number: Number::Accepted, standing: 5, flagged: 1, total: 850 };
+    for (value, number) in [(99, Number::Low), (100, Number::Accepted), (550, Number::Accepted), (551, Number::High)] {
+        assert_eq!(submit(&mut register.clone(), 0, read(820, b'C', value)).number, number, "{value}");
+    }
+    let expected = Report { number: Number::Accepted, standing: 4, flagged: 1, total: 650 };
     assert_eq!(report(&register, 0), expected);
 }

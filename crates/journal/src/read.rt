@@ -9,9 +9,6 @@ ghost use Rattle.journal.specs.Journal.{maxEntries, entryCount};
 use register::area::Layout;
 use terms::entry::Entry;
 
-// The most entries that follow a meter's.
-pub(crate) const MAX_ENTRIES: u8 = 50;
-
 pub(crate) fn word_at(bytes: &[u8], i: usize) -> u16
     requires { ⌜ i + 2 ≤ length (now bytes) ⌝ }
     ensures { λ r. ⌜ r ≡ wordAt (now (bytes .entry)) i ⌝ }
@@ -54,7 +51,7 @@ pub(crate) fn entry_count(area: &[u8]) -> u8
     ensures { λ r. ⌜ r ≡ entryCount (now (area .entry)) ⌝ }
 {
     let mut k: u8 = 0;
-    while k < MAX_ENTRIES {
+    while k < Layout::MAX_ENTRIES {
         let at = Layout::METER_BYTES + Layout::ENTRY_BYTES * (k as usize);
         if area[at] == 0 {
             return k;

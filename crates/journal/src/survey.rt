@@ -153,15 +153,19 @@ fn survey_journal(area: &[u8], day: u16, value: u32) -> Surveyed
     })
 }
 
-// All zero, damaged, or sound with what the calls need: for any bytes whatever.
+// All zero, damaged, or sound with what the calls need: for any bytes whatever. An area whose first byte is not zero need not be looked
+// through for zeros.
 pub fn survey_area(area: &[u8], day: u16, value: u32) -> Surveyed
     ensures { λ r. ⌜ r ≡ surveyed day value (now (area .entry)) ⌝ }
 {
     if area.len() != Layout::AREA_BYTES {
         return Surveyed::Damaged;
     }
+    if area[0] != 0 {
+        return survey_journal(area, day, value);
+    }
     if is_zero_from(area, 0) {
         return Surveyed::Zero;
     }
-    survey_journal(area, day, value)
+    Surveyed::Damaged
 }

@@ -11,4 +11,7 @@ impl Layout {
     pub const METER_BYTES: usize = 6;
 
     pub const ENTRY_BYTES: usize = 10;
+
+    // The most entries that follow a meter's.
+    pub const MAX_ENTRIES: u8 = 50;
 }

@@ -10,15 +10,13 @@ ghost use Rattle.calls.specs.Checks.{isBackDated, isUnopened, isATLater, isOpen
 ghost use Rattle.submit.specs.Decision.{lateRules, surveyFor};
 use journal::slot::is_there;
 use journal::survey::Survey;
+use register::area::Layout;
 use terms::entry::Slot;
 use terms::letter::Letter;
 use terms::letter::is_opening;
 use terms::number::Number;
 use terms::submission::Indicator;
 use terms::submission::Submission;
-
-// As many standing and withdrawn entries as an area holds.
-const MAX_ENTRIES: u8 = 50;
 
 // 12: earlier than the last standing read.
 fn is_back_dated(s: Submission, last: Slot) -> bool
@@ -75,7 +73,7 @@ fn is_unheld_reread(s: Submission, held: Slot) -> bool
 fn is_full(count: u8) -> bool
     ensures { λ r. ⌜ ((es : List Entry) → count ≡ kept es → r ≡ isFull es) ⌝ }
 {
-    count == MAX_ENTRIES
+    count == Layout::MAX_ENTRIES
 }
 
 // The number of the first rule broken, or 0.
