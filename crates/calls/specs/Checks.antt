@@ -14,9 +14,8 @@ use Rattle.terms.specs.Entry.{indicatorNotSet, indicatorTrue, slotAt, recentOf}
 use Rattle.terms.specs.Number.{repeat, noMeter, damaged, missing, content, date, withdrawnRead, readAT, readEH, readBF, backDated, readDF, indicatorOnOpening, noOriginal, full, readEE, readEF, low, high, overCapacity, notStanding, notLast, enrolled, plate}
 use Rattle.terms.specs.Rule.{Rule, rule}
 use Rattle.rules.specs.declared.indicator.Indicated.{Indicated}
-use Rattle.rules.specs.declared.indicator.Indicated.the-variants.{Denied, Unclear, Flag}
 use Rattle.rules.specs.Detection.{detected}
-use Rattle.rules.specs.Indicator.{indicated, indicatedFlag}
+use Rattle.rules.specs.Indicator.{indicated, indicatedNumber, indicatedFlag}
 use Rattle.rules.specs.Volume.{isLowVolume, isHighVolume, isOverCapacity}
 use Rattle.journal.specs.Journal.{Journal, journalOf, allZero, maxEntries, standing, withdrawn, kept, heldOf}
 use Rattle.journal.specs.Sound.{any, exists, hasRead, isFinalRead, isPlate, isSound}
@@ -93,14 +92,10 @@ isFull es = eqb (kept es) maxEntries
 
 -- ---- 17 to 21, "under Detection" and "under Volume"
 unfoldable pub isDenied : Indicated → Bool
-isDenied Denied = true
-isDenied Unclear = false
-isDenied (Flag f) = false
+isDenied found = eqb (indicatedNumber found) readEE
 
 unfoldable pub isUnclear : Indicated → Bool
-isUnclear Denied = false
-isUnclear Unclear = true
-isUnclear (Flag f) = false
+isUnclear found = eqb (indicatedNumber found) readEF
 
 -- what detection and the indicator make of a submission
 unfoldable pub indicatedIn : Submission → Journal → Indicated

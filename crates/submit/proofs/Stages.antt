@@ -11,7 +11,7 @@ use Rattle.terms.specs.Entry.{slotAt, recentOf}
 use Rattle.terms.specs.Number.{accepted, noMeter, damaged, readEE, readEF}
 use Rattle.terms.specs.Rule.{Rule, numberIf, firstBroken}
 use Rattle.rules.specs.declared.indicator.Indicated.the-variants.{Denied, Unclear, Flag}
-use Rattle.rules.specs.Indicator.{indicatedFlag}
+use Rattle.rules.specs.Indicator.{indicatedNumber, indicatedFlag}
 use Rattle.rules.specs.Volume.{advanceOver, volumeNumber}
 use Rattle.register.specs.Area.{areaBytes}
 use Rattle.journal.specs.declared.survey.Surveyed.{Surveyed}
@@ -87,13 +87,13 @@ module _ (s : Submission) (j : Journal) where
   judged = decidedIn s j (firstBroken (judgedRules s j))
 
   pub denied : indicatedIn s j ≡ Denied → judged ≡ refusedDecision readEE
-  unfolding decidedIn decided submitRules judgedRules isDenied
+  unfolding decidedIn decided submitRules judgedRules isDenied indicatedNumber
   denied h = rw h
 
   pub unclear : indicatedIn s j ≡ Unclear → judged ≡ refusedDecision readEF
-  unfolding decidedIn decided submitRules judgedRules isDenied isUnclear
+  unfolding decidedIn decided submitRules judgedRules isDenied isUnclear indicatedNumber
   unclear h = rw h
 
   pub flagged : (flag : ℕ) → indicatedIn s j ≡ Flag flag → judged ≡ decided (volumeNumber (j .dials) (j .capacity) s flag (recentOf (standing (j .entries)))) flag (advanceOver (j .dials) (s .value) flag (slotAt (standing (j .entries)) 0)) (kept (j .entries))
-  unfolding decidedIn submittedAdvance submitRules judgedRules isDenied isUnclear indicatedFlag volumeNumber
+  unfolding decidedIn submittedAdvance submitRules judgedRules isDenied isUnclear indicatedNumber indicatedFlag volumeNumber
   flagged flag h = rw h
