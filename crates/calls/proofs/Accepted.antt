@@ -1,6 +1,6 @@
 -- A read that is accepted, or held for its volume, may follow the kept entries of its journal.
 use mathlib.Core.Path.{_≡_, refl, sym, ap, _∙_}
-use mathlib.Core.Bool.{Bool, true, false, not, _&&_, _||_}
+use mathlib.Core.Bool.{Bool, true, false, not, _&&_, _||_, cond}
 use mathlib.Core.List.{List, [], _∷_}
 use mathlib.Core.Logic.{_⊎_, inl, inr}
 use Prim.Native.Nat.{ℕ, _<_}
@@ -14,7 +14,7 @@ use Rattle.terms.specs.declared.entry.Slot.{Slot}
 use Rattle.terms.specs.declared.submission.Submission.{Submission}
 use Rattle.terms.specs.Letter.{isHoldable}
 use Rattle.terms.specs.Number.{accepted, low, high, overCapacity}
-use Rattle.terms.specs.Rule.{numberIf, firstBroken}
+use Rattle.terms.specs.Rule.{firstBroken}
 use Rattle.terms.specs.Entry.{kindStanding, kindHeld, isStanding, isWithdrawn, isHeld, those, slotAt, recentOf}
 use Rattle.rules.specs.Volume.{isLowVolume, isHighVolume, isOverCapacity}
 use Rattle.journal.specs.Journal.{Journal, maxEntries, journalOf, isKept, standing, withdrawn, kept, heldOf}
@@ -112,7 +112,7 @@ by-query P k q l h =
     (λ t. rw (eqb-true k low t) l)
     (λ t. rw (eqb-true k high t) h)
 
-query-number : (l h o : Bool) (k : ℕ) → isVolumeQuery k ≡ true → numberIf l low (numberIf h high (numberIf o overCapacity accepted)) ≡ k → l || h ≡ true
+query-number : (l h o : Bool) (k : ℕ) → isVolumeQuery k ≡ true → cond l low (cond h high (cond o overCapacity accepted)) ≡ k → l || h ≡ true
 query-number true h o k q e = refl
 query-number false true o k q e = refl
 query-number false false true k q e = rw (← e) at q

@@ -1,12 +1,12 @@
 -- The first rule broken: no rule before it is.
 use mathlib.Core.Path.{_≡_, refl}
-use mathlib.Core.Bool.{Bool, true, false, not, _&&_}
+use mathlib.Core.Bool.{Bool, true, false, not, _&&_, cond}
 use mathlib.Core.List.{List, [], _∷_}
 use Prim.Native.Nat.{ℕ, zero, suc}
 use borrow.Author.Tests.{eq-eqb, not-true}
 use lib.Dec.{eqb}
 use lib.ListN.{take, drop}
-use Rattle.terms.specs.Rule.{Rule, numberIf, firstBroken}
+use Rattle.terms.specs.Rule.{Rule, firstBroken}
 use Rattle.calls.proofs.Bools.{both, apart}
 
 -- none of the rules is broken
@@ -19,7 +19,7 @@ abbrev pub haveOthers : ℕ → List Rule → Bool
 haveOthers k [] = true
 haveOthers k (r ∷ rs) = not (eqb (r .number) k) && haveOthers k rs
 
-not-first : (b : Bool) (m k n : ℕ) → not (eqb m k) ≡ true → numberIf b m n ≡ k → (b ≡ false) × (n ≡ k)
+not-first : (b : Bool) (m k n : ℕ) → not (eqb m k) ≡ true → cond b m n ≡ k → (b ≡ false) × (n ≡ k)
 not-first true m k n o h = absurd (apart (eq-eqb m k h) (not-true _ o))
 not-first false m k n o h = (refl, h)
 

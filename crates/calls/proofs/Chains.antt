@@ -1,7 +1,7 @@
 -- The invariant over a whole run, and what it gives at the end: demand 3.
 use mathlib.Core.Path.{_≡_, refl, sym, ap, ap₂, _∙_}
 use mathlib.Core.Logic.{inl, ⊎-elim}
-use mathlib.Core.Bool.{true, false, _&&_}
+use mathlib.Core.Bool.{true, false, _&&_, cond}
 use mathlib.Core.List.{List, [], _∷_}
 use Prim.Native.Nat.{ℕ, zero, suc, _*_, _^_, _<_}
 use native.Mathlib.Omega.{arith}
@@ -19,7 +19,7 @@ use Rattle.calls.specs.declared.call.Call.{Call}
 use Rattle.calls.specs.Calls.{act, placeOf, step}
 use Rattle.calls.proofs.Bools.{both, by-test}
 use Rattle.calls.specs.Play.{Exchange, exchange, exchanges, registerAfter, zeroRegister, numberOf, names}
-use Rattle.calls.specs.Ledger.{Named, Ledger, emptyLedger, entered, isAccepted, pickLedger, ledgerAfter, ledgerOf, lastLessFirst, areNoneOf}
+use Rattle.calls.specs.Ledger.{Named, Ledger, emptyLedger, entered, isAccepted, ledgerAfter, ledgerOf, lastLessFirst, areNoneOf}
 use Rattle.calls.specs.DemandThree.{namesOf, RunHolds, callsB, DemandThree}
 use Rattle.calls.proofs.Frame.{Local, Whole, room, own-reply, own-area-after, step-whole, other-area, agree}
 use Rattle.calls.proofs.Totals.{total-sum}
@@ -52,7 +52,7 @@ module _ (local : Local) (effects : Effects) (meter : ℕ) (near : meter < areas
     x = exchange call (step call register .reply)
 
     abbrev Entered : Type 0
-    Entered = Good (areaOf meter (step call register .register)) (pickLedger (isAccepted meter x) (entered call (step call register .reply) l) l)
+    Entered = Good (areaOf meter (step call register .register)) (cond (isAccepted meter x) (entered call (step call register .reply) l) l)
 
     own : placeOf call ≡ meter → Entered
     own at =

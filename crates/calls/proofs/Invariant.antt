@@ -1,7 +1,7 @@
 -- The invariant of a run at one meter: its area is all zero and nothing was accepted, or it is sound and the ledger says what its journal says.
 use mathlib.Core.Path.{_≡_, refl, sym, ap, ap₂, _∙_}
 use mathlib.Core.Logic.{_⊎_, inr, ⊎-elim}
-use mathlib.Core.Bool.{true}
+use mathlib.Core.Bool.{true, cond}
 use mathlib.Core.List.{List, [], _∷_}
 use Prim.Native.Nat.{ℕ}
 use native.Mathlib.Omega.{arith}
@@ -26,7 +26,7 @@ use Rattle.calls.specs.Checks.{takenFlag}
 use Rattle.calls.specs.Calls.{act, entryFor, submittedAdvance, flaggedOf, totalOf}
 use Rattle.calls.proofs.Bools.{by-test}
 use Rattle.calls.specs.Play.{numberOf, mayChange}
-use Rattle.calls.specs.Ledger.{Named, named, Ledger, takeOut, isAmong, flagOf, pickNumber, entered, pickLedger}
+use Rattle.calls.specs.Ledger.{Named, named, Ledger, takeOut, isAmong, flagOf, entered}
 use Rattle.calls.specs.DemandThree.{namesOf}
 use Rattle.calls.proofs.Totals.{IsFlag, flagged-more, flagged-none, total-more, total-first}
 use Rattle.calls.proofs.Names.{AreWithdrawn, take-newest, withdrawn-more}
@@ -54,7 +54,7 @@ Good area l = Fresh area l ⊎ Live area l
 
 -- ---- an answered flag counts as itself
 abbrev counted : ℕ → ℤ
-counted f = pickNumber (eqb f 1) (pos 1) (pos 0)
+counted f = cond (eqb f 1) (pos 1) (pos 0)
 
 pub flag-counts : (a : Answer) → IsFlag (a .flag) → flagOf a ≡ pos (a .flag)
 unfolding flagOf
@@ -168,7 +168,7 @@ module _ (effects : Effects) (area : List ℕ) (l : Ledger) where
   abbrev Next : Call → Type 0
   Next call =
       let after = act call area in
-      Good (after .area) (pickLedger (eqb (numberOf (after .reply)) accepted) (entered call (after .reply) l) l)
+      Good (after .area) (cond (eqb (numberOf (after .reply)) accepted) (entered call (after .reply) l) l)
 
   -- an accepted call is entered, any other is not
   by-answer : (call : Call) →

@@ -1,6 +1,6 @@
 -- Lists of entries under tests: what the kept entries of a journal share with all of its entries.
 use mathlib.Core.Path.{_≡_, refl, ap, _∙_}
-use mathlib.Core.Bool.{Bool, true, false, not, _||_}
+use mathlib.Core.Bool.{Bool, true, false, not, _||_, cond}
 use mathlib.Core.List.{List, [], _∷_}
 use Prim.Native.Nat.{ℕ, suc}
 use borrow.Author.Tests.{eqb-true, not-true}
@@ -8,7 +8,6 @@ use lib.Dec.{eqb}
 use lib.ListN.{length}
 use Rattle.terms.specs.declared.entry.Entry.{Entry}
 use Rattle.terms.specs.declared.entry.Slot.the-variants.{Empty}
-use Rattle.terms.specs.Rule.{numberIf}
 use Rattle.terms.specs.Entry.{kindStanding, kindWithdrawn, kindHeld, isStanding, isWithdrawn, isHeld, keepIf, those}
 use Rattle.journal.specs.Journal.{isKept, standing, withdrawn, kept, slotIf, heldOf}
 use Rattle.journal.specs.Sound.{every, any, isBody, isRead, isHeldRight}
@@ -128,13 +127,13 @@ module _ (limit : ℕ) (e : Entry) (es : List Entry) (r : every (isRead limit) (
   unfolding every
   newest-kept = kept-unless-held limit e (both (isRead limit e) (every (isRead limit) es) r .0)
 
-length-split : (b : Bool) (e : Entry) (es : List Entry) → suc (length es) ≡ numberIf (isThere (slotIf b e Empty)) (suc (length (keepIf (not b) e es))) (length (keepIf (not b) e es))
+length-split : (b : Bool) (e : Entry) (es : List Entry) → suc (length es) ≡ cond (isThere (slotIf b e Empty)) (suc (length (keepIf (not b) e es))) (length (keepIf (not b) e es))
 unfolding isThere
 length-split true e es = refl
 length-split false e es = refl
 
 -- how many there are, with and without a held one
-pub kept-and-held : (limit : ℕ) (es : List Entry) → every (isRead limit) es ≡ true → isHeldRight es ≡ true → length es ≡ numberIf (isThere (heldOf es)) (suc (kept es)) (kept es)
+pub kept-and-held : (limit : ℕ) (es : List Entry) → every (isRead limit) es ≡ true → isHeldRight es ≡ true → length es ≡ cond (isThere (heldOf es)) (suc (kept es)) (kept es)
 unfolding those heldOf isThere
 kept-and-held limit [] r h = refl
 kept-and-held limit (e ∷ es) r h = rw (rest-kept limit e es r h, newest-kept limit e es r h) (length-split (isHeld e) e es)

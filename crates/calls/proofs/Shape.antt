@@ -1,6 +1,6 @@
 -- The shape of an area: how many entries it has, and which of them are kept.
 use mathlib.Core.Path.{_≡_, refl, sym, ap, _∙_}
-use mathlib.Core.Bool.{Bool, true, false}
+use mathlib.Core.Bool.{Bool, true, false, cond}
 use mathlib.Core.List.{List}
 use Prim.Native.Nat.{ℕ, zero, suc, _+_, _≤_, _<_}
 use native.Mathlib.Omega.{arith}
@@ -11,7 +11,6 @@ use lib.ListN.{length, take, drop}
 use lib.Seq.{getD-drop}
 use Rattle.arithmetic.specs.Powers.{tenTo}
 use Rattle.terms.specs.declared.entry.Entry.{Entry}
-use Rattle.terms.specs.Rule.{numberIf}
 use Rattle.terms.specs.Entry.{keepIf, those}
 use Rattle.register.specs.Bytes.{byteAt}
 use Rattle.register.specs.Entries.{meterBytes, dialsOf, capacityOf, entryStart, entryAt}
@@ -117,7 +116,7 @@ module _ (a : List ℕ) (sound : isSound a ≡ true) where
   kept-prefix = kept-to (tenTo (dialsOf a)) (entryCount a) a (clauses .reads) (clauses .held)
 
   -- how many entries there are, with and without a held one
-  pub count-kept : entryCount a ≡ numberIf (isThere (heldOf es)) (suc (kept es)) (kept es)
+  pub count-kept : entryCount a ≡ cond (isThere (heldOf es)) (suc (kept es)) (kept es)
   unfolding journalOf
   count-kept = sym (length-entries (entryCount a) a) ∙ kept-and-held (tenTo (dialsOf a)) es (clauses .reads) (clauses .held)
 

@@ -1,5 +1,5 @@
 -- 01, Calls: what each call answers and what it leaves, byte for byte.
-use mathlib.Core.Bool.{Bool, true, false, not, _||_}
+use mathlib.Core.Bool.{Bool, true, false, not, _||_, cond}
 use mathlib.Core.List.{List, [], _∷_}
 use Prim.Native.Nat.{ℕ, _*_}
 use lib.Dec.{eqb, leb, ltb}
@@ -15,7 +15,7 @@ use Rattle.terms.specs.declared.submission.Submission.{Submission}
 use Rattle.terms.specs.Answer.{answer, refusal, refusedReport}
 use Rattle.terms.specs.Entry.{kindStanding, kindWithdrawn, kindHeld, slotAt, those}
 use Rattle.terms.specs.Number.{accepted, misfit, noMeter, low, high}
-use Rattle.terms.specs.Rule.{rule, firstBroken, numberIf}
+use Rattle.terms.specs.Rule.{rule, firstBroken}
 use Rattle.rules.specs.Volume.{advanceOver}
 use Rattle.register.specs.Area.{areaBytes, areas, registerBytes, areaOf, withArea}
 use Rattle.register.specs.Entries.{entryStart, putMeter, putEntry, zeroEntry}
@@ -35,10 +35,6 @@ pub record Acted : Type 0 where
 abbrev pub acted : Reply → List ℕ → Acted
 acted reply area = record { reply = reply; area = area }
 
-abbrev pub pickActed : Bool → Acted → Acted → Acted
-pickActed true a b = a
-pickActed false a b = b
-
 -- "Every number but 0 comes with zeros in the other fields and changes no byte"
 abbrev pub refused : ℕ → List ℕ → Acted
 refused number area = acted (Answered (refusal number)) area
@@ -46,7 +42,7 @@ refused number area = acted (Answered (refusal number)) area
 -- ---- "Enrol (place, dials, capacity): writes kind 1."
 unfoldable pub enrolIn : ℕ → ℕ → List ℕ → Acted
 enrolIn dials capacity area =
-    pickActed (eqb (firstBroken (enrolChecks dials capacity area)) accepted)
+    cond (eqb (firstBroken (enrolChecks dials capacity area)) accepted)
     (acted (Answered (answer accepted 0 (pos 0))) (putMeter area dials capacity))
     (refused (firstBroken (enrolChecks dials capacity area)) area)
 
@@ -77,24 +73,19 @@ isVolumeQuery number = eqb number low || eqb number high
 
 unfoldable pub submitIn : Submission → List ℕ → Acted
 submitIn s area =
-    pickActed (eqb (firstBroken (submitChecks s area)) accepted)
+    cond (eqb (firstBroken (submitChecks s area)) accepted)
     (acted
     (Answered (answer accepted (takenFlag s (journalOf area)) (submittedAdvance s (journalOf area))))
     (written kindStanding s area))
-    (pickActed (isVolumeQuery (firstBroken (submitChecks s area)))
+    (cond (isVolumeQuery (firstBroken (submitChecks s area)))
     (refused (firstBroken (submitChecks s area)) (written kindHeld s area))
     (refused (firstBroken (submitChecks s area)) area))
 
 -- ---- "Withdraw (place, day, value): the last standing entry becomes kind 3 in its place and a held entry is zeroed; it answers that read's
--- flag and its advance negated."
-abbrev pub pickBytes : Bool → List ℕ → List ℕ → List ℕ
-pickBytes true a b = a
-pickBytes false a b = b
-
 -- the area with the entry after `newest` others withdrawn, and the one after `kept` others zeroed if a read is held
 unfoldable pub withdrawnBytes : ℕ → ℕ → Bool → List ℕ → List ℕ
 withdrawnBytes newest kept held area =
-    pickBytes held
+    cond held
     (putEntry (set area (entryStart newest) kindWithdrawn) (entryStart kept) zeroEntry)
     (set area (entryStart newest) kindWithdrawn)
 
@@ -109,7 +100,7 @@ withdrawnAnswer n Empty second = refusal accepted
 
 unfoldable pub withdrawIn : ℕ → ℕ → List ℕ → Acted
 withdrawIn day value area =
-    pickActed (eqb (firstBroken (withdrawChecks day value area)) accepted)
+    cond (eqb (firstBroken (withdrawChecks day value area)) accepted)
     (acted
     (Answered
     (withdrawnAnswer
@@ -138,7 +129,7 @@ reportOf j =
 
 unfoldable pub reportIn : List ℕ → Acted
 reportIn area =
-    pickActed (eqb (firstBroken (reportChecks area)) accepted)
+    cond (eqb (firstBroken (reportChecks area)) accepted)
     (acted (Reported (reportOf (journalOf area))) area)
     (acted (Reported (refusedReport (firstBroken (reportChecks area)))) area)
 
@@ -170,10 +161,6 @@ pub record Done : Type 0 where
 abbrev pub done : Reply → List ℕ → Done
 done reply register = record { reply = reply; register = register }
 
-abbrev pub pickDone : Bool → Done → Done → Done
-pickDone true a b = a
-pickDone false a b = b
-
 -- 2: "register length not 32,768"
 unfoldable pub isMisfit : List ℕ → Bool
 isMisfit register = not (eqb (length register) registerBytes)
@@ -192,7 +179,7 @@ onArea place after register = done (after .reply) (withArea place (after .area) 
 
 unfoldable pub step : Call → List ℕ → Done
 step call register =
-    pickDone (eqb (placeNumber (placeOf call) register) accepted)
+    cond (eqb (placeNumber (placeOf call) register) accepted)
     (onArea (placeOf call) (act call (areaOf (placeOf call) register)) register)
     (done (refusalOf call (placeNumber (placeOf call) register)) register)
 
@@ -200,8 +187,8 @@ step call register =
 -- refuses."
 unfoldable pub journalLength : ℕ → List ℕ → ℕ
 journalLength place register =
-    numberIf (eqb (placeNumber place register) accepted)
-    (numberIf (eqb (firstBroken (reportChecks (areaOf place register))) accepted)
+    cond (eqb (placeNumber place register) accepted)
+    (cond (eqb (firstBroken (reportChecks (areaOf place register))) accepted)
     (entryStart (entryCount (areaOf place register)))
     0)
     0

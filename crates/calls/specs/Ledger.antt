@@ -1,5 +1,5 @@
 -- 01, The two runs of demand 3: what is worked out from a meter's calls and the answers to them, and not from the register.
-use mathlib.Core.Bool.{Bool, true, false, not, _&&_, _||_}
+use mathlib.Core.Bool.{Bool, true, false, not, _&&_, _||_, cond}
 use mathlib.Core.List.{List, [], _∷_}
 use Prim.Native.Nat.{ℕ}
 use lib.Dec.{eqb}
@@ -23,14 +23,10 @@ named day value = record { day = day; value = value }
 unfoldable pub isSame : Named → Named → Bool
 isSame a b = eqb (a .day) (b .day) && eqb (a .value) (b .value)
 
-abbrev pub pickReads : Bool → List Named → List Named → List Named
-pickReads true a b = a
-pickReads false a b = b
-
 -- "takes out the read of its day and value"
 unfoldable pub takeOut : Named → List Named → List Named
 takeOut r [] = []
-takeOut r (s ∷ ss) = pickReads (isSame r s) ss (s ∷ takeOut r ss)
+takeOut r (s ∷ ss) = cond (isSame r s) ss (s ∷ takeOut r ss)
 
 -- What a meter's accepted calls come to. The lists have the newest first, so that the paper's end of a list is its front.
 pub record Ledger : Type 0 where
@@ -49,13 +45,9 @@ pub record Ledger : Type 0 where
 unfoldable pub emptyLedger : Ledger
 emptyLedger = record { standing = []; advances = pos 0; flags = pos 0; dials = 0; withdrawn = [] }
 
-abbrev pub pickNumber : Bool → ℤ → ℤ → ℤ
-pickNumber true a b = a
-pickNumber false a b = b
-
 -- "flagged means answered with flag 1"
 unfoldable pub flagOf : Answer → ℤ
-flagOf a = pickNumber (eqb (a .flag) 1) (pos 1) (pos 0)
+flagOf a = cond (eqb (a .flag) 1) (pos 1) (pos 0)
 
 -- "An accepted submission puts its day and value at the end. An accepted withdrawal takes out the read of its day and value."
 unfoldable pub entered : Call → Reply → Ledger → Ledger
@@ -91,14 +83,10 @@ entered (Ask place) reply l = l
 unfoldable pub isAccepted : ℕ → Exchange → Bool
 isAccepted meter x = names meter (x .call) && eqb (numberOf (x .reply)) accepted
 
-abbrev pub pickLedger : Bool → Ledger → Ledger → Ledger
-pickLedger true a b = a
-pickLedger false a b = b
-
 -- "Any other call, and any answer but 0 (19 and 20 too), changes nothing."
 unfoldable pub ledgerAfter : ℕ → List Exchange → Ledger → Ledger
 ledgerAfter meter [] l = l
-ledgerAfter meter (x ∷ xs) l = ledgerAfter meter xs (pickLedger (isAccepted meter x) (entered (x .call) (x .reply) l) l)
+ledgerAfter meter (x ∷ xs) l = ledgerAfter meter xs (cond (isAccepted meter x) (entered (x .call) (x .reply) l) l)
 
 unfoldable pub ledgerOf : ℕ → List Exchange → Ledger
 ledgerOf meter xs = ledgerAfter meter xs emptyLedger

@@ -1,6 +1,6 @@
 -- What the loops over an area's entries share: one entry more, and how many there are.
 use mathlib.Core.Path.{_≡_, refl, ap}
-use mathlib.Core.Bool.{Bool, true, false, _&&_, _||_}
+use mathlib.Core.Bool.{Bool, true, false, _&&_, _||_, cond}
 use mathlib.Core.List.{List, [], _∷_}
 use Prim.Native.Nat.{ℕ, zero, suc, _+_, _≤_}
 use native.Mathlib.Numerals.{add-one}
@@ -9,7 +9,6 @@ use lib.Dec.{eqb}
 use lib.ListN.{length}
 use Rattle.terms.specs.declared.entry.Entry.{Entry}
 use Rattle.terms.specs.Entry.{keepIf, those}
-use Rattle.terms.specs.Rule.{numberIf}
 use Rattle.register.specs.Bytes.{byteAt}
 use Rattle.register.specs.Entries.{entryStart, entryAt}
 use Rattle.journal.specs.Journal.{maxEntries, entriesTo, countFrom, entryCount}
@@ -46,7 +45,7 @@ unfolding those
 those-at-most test [] = omega arith
 those-at-most test (e ∷ es) = omega (arith, those-at-most test es, kept-at-most (test e) e (those test es))
 
-number-at-most : (b : Bool) {m n most : ℕ} → m ≤ most → n ≤ most → numberIf b m n ≤ most
+number-at-most : (b : Bool) {m n most : ℕ} → m ≤ most → n ≤ most → cond b m n ≤ most
 number-at-most true h g = h
 number-at-most false h g = g
 

@@ -1,6 +1,6 @@
 -- One more entry, and what is read off the list then.
 use mathlib.Core.Path.{_≡_, refl}
-use mathlib.Core.Bool.{Bool, true, false, _&&_, _||_}
+use mathlib.Core.Bool.{Bool, true, false, _&&_, _||_, cond}
 use mathlib.Core.List.{List, [], _∷_}
 use Prim.Native.Nat.{ℕ, suc, _+_}
 use native.Mathlib.Numerals.{add-one}
@@ -10,23 +10,22 @@ use lib.Dec.{eqb}
 use lib.ListN.{length}
 use Rattle.terms.specs.declared.entry.Entry.{Entry}
 use Rattle.terms.specs.Entry.{isStanding, isWithdrawn, keepIf, those}
-use Rattle.terms.specs.Rule.{numberIf}
 use Rattle.journal.specs.Journal.{slotIf}
 use Rattle.journal.specs.Sound.{hasRead}
 use Rattle.journal.proofs.Entries.{any-kept}
 use Rattle.journal.specs.Survey.{isFlagged, firstValue, newestAt, countsOf, onDay, foundOf}
 
 -- ---- a list with one entry more, if the entry is kept
-length-kept : (b : Bool) (e : Entry) (es : List Entry) → length (keepIf b e es) ≡ numberIf b (length es + 1) (length es)
+length-kept : (b : Bool) (e : Entry) (es : List Entry) → length (keepIf b e es) ≡ cond b (length es + 1) (length es)
 length-kept true e es = rw (add-one (length es))
 length-kept false e es = refl
 
-flagged-kept : (b : Bool) (e : Entry) (es : List Entry) → length (those isFlagged (keepIf b e es)) ≡ numberIf (b && isFlagged e) (length (those isFlagged es) + 1) (length (those isFlagged es))
+flagged-kept : (b : Bool) (e : Entry) (es : List Entry) → length (those isFlagged (keepIf b e es)) ≡ cond (b && isFlagged e) (length (those isFlagged es) + 1) (length (those isFlagged es))
 unfolding those
 flagged-kept true e es = length-kept (isFlagged e) e (those isFlagged es)
 flagged-kept false e es = refl
 
-first-kept : (b : Bool) (e : Entry) (es : List Entry) → firstValue (keepIf b e es) ≡ numberIf (b && eqb (length es) 0) (e .value) (firstValue es)
+first-kept : (b : Bool) (e : Entry) (es : List Entry) → firstValue (keepIf b e es) ≡ cond (b && eqb (length es) 0) (e .value) (firstValue es)
 unfolding firstValue
 first-kept true e [] = refl
 first-kept true e (s ∷ es) = rw (ne-eqb (suc (length es)) 0 (λ h. omega arith))
@@ -39,11 +38,11 @@ day-kept day false e es = refl
 
 -- ---- the counts and what is found
 pub counts-more : (e : Entry) (es : List Entry) → countsOf (e ∷ es) ≡ record {
-  kept = numberIf (isStanding e || isWithdrawn e) (countsOf es .kept + 1) (countsOf es .kept);
-  standing = numberIf (isStanding e) (countsOf es .standing + 1) (countsOf es .standing);
-  flagged = numberIf (isStanding e && isFlagged e) (countsOf es .flagged + 1) (countsOf es .flagged);
-  first = numberIf (isStanding e && eqb (countsOf es .standing) 0) (e .value) (countsOf es .first);
-  newest = numberIf (isStanding e) (length es) (countsOf es .newest);
+  kept = cond (isStanding e || isWithdrawn e) (countsOf es .kept + 1) (countsOf es .kept);
+  standing = cond (isStanding e) (countsOf es .standing + 1) (countsOf es .standing);
+  flagged = cond (isStanding e && isFlagged e) (countsOf es .flagged + 1) (countsOf es .flagged);
+  first = cond (isStanding e && eqb (countsOf es .standing) 0) (e .value) (countsOf es .first);
+  newest = cond (isStanding e) (length es) (countsOf es .newest);
 }
 unfolding countsOf those newestAt
 counts-more e es = simp (length-kept, flagged-kept, first-kept)

@@ -1,5 +1,5 @@
 -- 01, The register: what an area of 512 bytes means. Lists of entries have the newest first.
-use mathlib.Core.Bool.{Bool, true, false, not, _&&_, _||_}
+use mathlib.Core.Bool.{Bool, true, false, not, _&&_, _||_, cond}
 use mathlib.Core.List.{List, [], _∷_}
 use Prim.Native.Nat.{ℕ, zero, suc}
 use lib.Dec.{eqb}
@@ -8,7 +8,6 @@ use Rattle.terms.specs.declared.entry.Entry.{Entry}
 use Rattle.terms.specs.declared.entry.Slot.{Slot}
 use Rattle.terms.specs.declared.entry.Slot.the-variants.{Read, Empty}
 use Rattle.terms.specs.Entry.{isStanding, isWithdrawn, isHeld, those}
-use Rattle.terms.specs.Rule.{numberIf}
 use Rattle.register.specs.Bytes.{byteAt}
 use Rattle.register.specs.Entries.{dialsOf, capacityOf, entryStart, entryAt}
 
@@ -29,7 +28,7 @@ entriesTo (suc k) area = entryAt area (entryStart k) ∷ entriesTo k area
 -- how many entries there are: a journal ends at its first zero kind byte. k are counted, and at most `left` more may be.
 unfoldable pub countFrom : ℕ → ℕ → List ℕ → ℕ
 countFrom zero k area = k
-countFrom (suc left) k area = numberIf (eqb (byteAt area (entryStart k)) 0) k (countFrom left (suc k) area)
+countFrom (suc left) k area = cond (eqb (byteAt area (entryStart k)) 0) k (countFrom left (suc k) area)
 
 unfoldable pub entryCount : List ℕ → ℕ
 entryCount area = countFrom maxEntries 0 area

@@ -1,5 +1,5 @@
 -- What one pass over an area gathers for the calls: each field as the journal's entries have it.
-use mathlib.Core.Bool.{Bool, true, false, not, _&&_, _||_}
+use mathlib.Core.Bool.{Bool, true, false, not, _&&_, _||_, cond}
 use mathlib.Core.List.{List, [], _∷_}
 use Prim.Native.Nat.{ℕ}
 use lib.Dec.{eqb, ltb}
@@ -9,7 +9,6 @@ use Rattle.terms.specs.declared.entry.Slot.{Slot}
 use Rattle.terms.specs.declared.entry.Slot.the-variants.{Read, Empty}
 use Rattle.terms.specs.Letter.{isOpening, isHoldable}
 use Rattle.terms.specs.Entry.{isStanding, isHeld, those, recentOf}
-use Rattle.terms.specs.Rule.{numberIf}
 use Rattle.register.specs.Area.{areaBytes}
 use Rattle.journal.specs.declared.survey.Counts.{Counts}
 use Rattle.journal.specs.declared.survey.Found.{Found}
@@ -33,7 +32,7 @@ firstValue (s ∷ t ∷ ss) = firstValue (t ∷ ss)
 -- how many entries come before the last standing one
 unfoldable pub newestAt : List Entry → ℕ
 newestAt [] = 0
-newestAt (e ∷ es) = numberIf (isStanding e) (length es) (newestAt es)
+newestAt (e ∷ es) = cond (isStanding e) (length es) (newestAt es)
 
 unfoldable pub countsOf : List Entry → Counts
 countsOf es =
@@ -104,15 +103,11 @@ surveyOf day value j =
       found = foundOf day value (j .entries);
     }
 
-abbrev pub pickSurveyed : Bool → Surveyed → Surveyed → Surveyed
-pickSurveyed true a b = a
-pickSurveyed false a b = b
-
 -- an area is all zero, sound or damaged; what is lent as one and is not 512 bytes long is no journal
 unfoldable pub surveyed : ℕ → ℕ → List ℕ → Surveyed
 surveyed day value area =
-    pickSurveyed (not (eqb (length area) areaBytes))
+    cond (not (eqb (length area) areaBytes))
     Damaged
-    (pickSurveyed (allZero area)
+    (cond (allZero area)
     Zero
-    (pickSurveyed (isSound area) (Sound (surveyOf day value (journalOf area))) Damaged))
+    (cond (isSound area) (Sound (surveyOf day value (journalOf area))) Damaged))

@@ -1,27 +1,27 @@
 -- What the survey of an area of 512 bytes says of the first checks of a call.
 use mathlib.Core.Path.{_≡_, refl}
-use mathlib.Core.Bool.{Bool, true, false, not}
+use mathlib.Core.Bool.{Bool, true, false, not, cond}
 use mathlib.Core.List.{List}
 use Prim.Native.Nat.{ℕ}
 use lib.ListN.{length}
 use Rattle.terms.specs.Number.{noMeter, damaged}
-use Rattle.terms.specs.Rule.{Rule, numberIf, firstBroken}
+use Rattle.terms.specs.Rule.{Rule, firstBroken}
 use Rattle.register.specs.Area.{areaBytes}
 use Rattle.journal.specs.declared.survey.Survey.{Survey}
 use Rattle.journal.specs.declared.survey.Surveyed.{Surveyed}
 use Rattle.journal.specs.declared.survey.Surveyed.the-variants.{Zero, Damaged, Sound}
 use Rattle.journal.specs.Journal.{Journal, journalOf, allZero}
 use Rattle.journal.specs.Sound.{isSound}
-use Rattle.journal.specs.Survey.{surveyOf, pickSurveyed, surveyed}
+use Rattle.journal.specs.Survey.{surveyOf, surveyed}
 use Rattle.calls.specs.Checks.{withJournal}
 
 -- by the two tests
 module _ (s : Survey) (more : ℕ) where
   abbrev verdict : Bool → Bool → Surveyed
-  verdict zero sound = pickSurveyed zero Zero (pickSurveyed sound (Sound s) Damaged)
+  verdict zero sound = cond zero Zero (cond sound (Sound s) Damaged)
 
   abbrev number : Bool → Bool → ℕ
-  number zero sound = numberIf zero noMeter (numberIf (not sound) damaged more)
+  number zero sound = cond zero noMeter (cond (not sound) damaged more)
 
   if-zero : (zero sound : Bool) → verdict zero sound ≡ Zero → number zero sound ≡ noMeter
   if-zero true sound e = refl

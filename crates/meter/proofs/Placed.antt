@@ -1,6 +1,6 @@
 -- What every call shares: a refused place changes nothing, and a call on an area is the step on the register.
 use mathlib.Core.Path.{_≡_, refl, sym, _∙_}
-use mathlib.Core.Bool.{Bool, true, false}
+use mathlib.Core.Bool.{Bool, true, false, cond}
 use mathlib.Core.List.{List}
 use mathlib.Core.Logic.{_≢_}
 use Prim.Native.Nat.{ℕ, suc, _+_, _*_, _-_, _<_}
@@ -9,7 +9,6 @@ use borrow.Author.Tests.{eqb-true, leb-false, not-false, ne-eqb}
 use borrow.Rule.Slice.PartMut.{midOf, putMid}
 use lib.ListN.{length}
 use Rattle.terms.specs.Number.{accepted}
-use Rattle.terms.specs.Rule.{numberIf}
 use Rattle.register.specs.Area.{areaBytes, areas, registerBytes, areaOf}
 use Rattle.register.proofs.Lent.{lent, back}
 use Rattle.register.proofs.Areas.{area-length, own-area}
@@ -18,7 +17,7 @@ use Rattle.calls.specs.declared.call.Reply.{Reply}
 use Rattle.calls.specs.Calls.{isMisfit, isNoPlace, placeNumber, placeOf, refusalOf, acted, act, done, onArea, step}
 
 -- a number that is 0 is past its first rule
-past : (b : Bool) (n m : ℕ) → numberIf b (suc n) m ≡ 0 → (b ≡ false) × (m ≡ 0)
+past : (b : Bool) (n m : ℕ) → cond b (suc n) m ≡ 0 → (b ≡ false) × (m ≡ 0)
 past true n m h = absurd (let z : suc n ≡ 0 = h in let f : ⊥ = omega arith in f)
 past false n m h = (refl, h)
 

@@ -1,5 +1,5 @@
 -- 01, Calls, Withdraw: the decision apart from the writing.
-use mathlib.Core.Bool.{Bool, true, false}
+use mathlib.Core.Bool.{Bool, true, false, cond}
 use mathlib.Core.List.{List}
 use Prim.Native.Nat.{ℕ}
 use lib.Dec.{eqb}
@@ -11,13 +11,9 @@ use Rattle.calls.specs.Checks.{withdrawChecks}
 use Rattle.meter.specs.declared.withdraw.Decided.{Decided}
 use Rattle.meter.specs.declared.withdraw.Decided.the-variants.{Refused, Taken}
 
-abbrev pub pickDecided : Bool → Decided → Decided → Decided
-pickDecided true a b = a
-pickDecided false a b = b
-
 -- a refusal, or the journal that the call is to change
 unfoldable pub withdrawDecided : ℕ → ℕ → List ℕ → Decided
 withdrawDecided day value area =
-    pickDecided (eqb (firstBroken (withdrawChecks day value area)) accepted)
+    cond (eqb (firstBroken (withdrawChecks day value area)) accepted)
     (Taken (surveyOf day value (journalOf area)))
     (Refused (firstBroken (withdrawChecks day value area)))

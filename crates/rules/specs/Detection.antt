@@ -1,5 +1,5 @@
 -- 01, Detection. R1 and D1 are the submitted value and day; R0, R-1 and R-2 stand in the slots of `Recent`, with D0 and D-1 their days.
-use mathlib.Core.Bool.{Bool, true, false, _&&_}
+use mathlib.Core.Bool.{Bool, true, false, _&&_, cond}
 use Prim.Native.Nat.{ℕ, _-_, _*_}
 use lib.Dec.{eqb, leb, ltb}
 use lib.IntN.{ℤ, pos, negℤ, _-ℤ_, _*ℤ_}
@@ -81,13 +81,9 @@ isRollover n s recent = allFive (recent .last) (recent .second) (recent .third)
     allFive (Read r0) Empty r = false
     allFive Empty q r = false
 
-abbrev pub pickDetected : Bool → Detected → Detected → Detected
-pickDetected true a b = a
-pickDetected false a b = b
-
 -- Not a Rollover is "decided first"; "Otherwise Indeterminate."
 unfoldable pub detected : ℕ → Submission → Recent → Detected
 detected n s recent =
-    pickDetected (isNotRollover n s (recent .last))
+    cond (isNotRollover n s (recent .last))
     NotRollover
-    (pickDetected (isRollover n s recent) Rollover Indeterminate)
+    (cond (isRollover n s recent) Rollover Indeterminate)

@@ -1,6 +1,6 @@
 -- 01, Pairs at an edge: those marked P, as one table under one claim. "Four dials; spacing 180 days where it counts."
 use mathlib.Core.Path.{_≡_}
-use mathlib.Core.Bool.{Bool, true, false, _&&_}
+use mathlib.Core.Bool.{Bool, true, false, _&&_, cond}
 use mathlib.Core.List.{List, [], _∷_}
 use Prim.Native.Nat.{ℕ, _+_, _*_}
 use lib.Dec.{eqb}
@@ -11,7 +11,6 @@ use Rattle.terms.specs.declared.submission.Submission.{Submission}
 use Rattle.terms.specs.Entry.{recentOf, kindStanding, indicatorNotSet}
 use Rattle.terms.specs.Letter.{letterC}
 use Rattle.terms.specs.Number.{accepted, readEF, low, high, overCapacity}
-use Rattle.terms.specs.Rule.{numberIf}
 use Rattle.rules.specs.declared.detection.Detected.{Detected}
 use Rattle.rules.specs.declared.detection.Detected.the-variants.{NotRollover, Rollover, Indeterminate}
 use Rattle.rules.specs.declared.indicator.Indicated.{Indicated}
@@ -89,7 +88,7 @@ detectedAt e = detected dials (submittedRead e) (recentOf (standingReads (e .spa
 
 -- the number that detection, indicator and volume give, in this order
 unfoldable pub numberAt : Edge → ℕ
-numberAt e = numberIf (eqb (indicatedNumber taken) accepted) (volumeNumber dials (e .capacity) (submittedRead e) (indicatedFlag taken) recent) (indicatedNumber taken)
+numberAt e = cond (eqb (indicatedNumber taken) accepted) (volumeNumber dials (e .capacity) (submittedRead e) (indicatedFlag taken) recent) (indicatedNumber taken)
   where
     taken : Indicated
     taken = indicated (detectedAt e) indicatorNotSet

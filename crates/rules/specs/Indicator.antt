@@ -9,10 +9,6 @@ use Rattle.rules.specs.declared.detection.Detected.the-variants.{NotRoll
 use Rattle.rules.specs.declared.indicator.Indicated.{Indicated}
 use Rattle.rules.specs.declared.indicator.Indicated.the-variants.{Denied, Unclear, Flag}
 
-abbrev pub pickIndicated : Bool → Indicated → Indicated → Indicated
-pickIndicated true a b = a
-pickIndicated false a b = b
-
 -- "the indicator's word for Indeterminate": true is 1, false is 0
 abbrev pub wordOf : ℕ → ℕ
 wordOf indicator = cond (eqb indicator indicatorTrue) 1 0
@@ -20,9 +16,9 @@ wordOf indicator = cond (eqb indicator indicatorTrue) 1 0
 -- "Rollover with false, or Not a Rollover with true, is 17. Indeterminate with not set is 18. Otherwise the flag is 1 for Rollover, 0 for
 -- Not a Rollover, and the indicator's word for Indeterminate."
 unfoldable pub indicated : Detected → ℕ → Indicated
-indicated Rollover indicator = pickIndicated (eqb indicator indicatorFalse) Denied (Flag 1)
-indicated NotRollover indicator = pickIndicated (eqb indicator indicatorTrue) Denied (Flag 0)
-indicated Indeterminate indicator = pickIndicated (eqb indicator indicatorNotSet) Unclear (Flag (wordOf indicator))
+indicated Rollover indicator = cond (eqb indicator indicatorFalse) Denied (Flag 1)
+indicated NotRollover indicator = cond (eqb indicator indicatorTrue) Denied (Flag 0)
+indicated Indeterminate indicator = cond (eqb indicator indicatorNotSet) Unclear (Flag (wordOf indicator))
 
 -- the paper's number for each case
 unfoldable pub indicatedNumber : Indicated → ℕ

@@ -1,6 +1,6 @@
 -- The digits of a number: those before the last are the digits of a tenth of it; how many there are.
 use mathlib.Core.Path.{_≡_, refl, ap, _∙_}
-use mathlib.Core.Bool.{Bool, true, false}
+use mathlib.Core.Bool.{Bool, true, false, cond}
 use mathlib.Core.List.{[], _∷_, _++_}
 use Prim.Native.Nat.{ℕ, zero, suc, _+_, _/_, _%_, _^_, _≤_, _<_}
 use native.Mathlib.Nat.{pow-suc}
@@ -8,11 +8,10 @@ use native.Mathlib.Omega.{arith}
 use borrow.Author.Tests.{lt-ltb, le-ltb}
 use lib.Dec.{ltb}
 use lib.ListN.{length, length-append}
-use Rattle.terms.specs.Rule.{numberIf}
 use Rattle.sheet.specs.Decimal.{digits, placesIn, placesMost, places, decimal}
 
 -- ---- how many
-few : (short : Bool) {k m : ℕ} → k ≤ m → numberIf short 1 (suc k) ≤ suc m
+few : (short : Bool) {k m : ℕ} → k ≤ m → cond short 1 (suc k) ≤ suc m
 few true h = omega arith
 few false h = omega arith
 
@@ -46,7 +45,7 @@ unfolding decimal places
 byte-length n h = rw digits-length (places-few placesMost 2 n (omega arith))
 
 -- ---- all but the last
-places-step : (most n : ℕ) → placesIn (suc most) n ≡ numberIf (ltb n 10) 1 (suc (placesIn most (n / 10)))
+places-step : (most n : ℕ) → placesIn (suc most) n ≡ cond (ltb n 10) 1 (suc (placesIn most (n / 10)))
 unfolding placesIn
 places-step most n = refl
 
@@ -54,7 +53,7 @@ places-step most n = refl
 places-same : (k n : ℕ) → n < 10 ^ suc k → placesIn (suc k) n ≡ placesIn (suc (suc k)) n
 unfolding placesIn
 places-same zero n h = rw (lt-ltb n 10 h)
-places-same (suc k) n h = ap (λ (m : ℕ). numberIf (ltb n 10) 1 (suc m)) (places-same k (n / 10) (tenth (suc k) n h))
+places-same (suc k) n h = ap (λ (m : ℕ). cond (ltb n 10) 1 (suc m)) (places-same k (n / 10) (tenth (suc k) n h))
 
 places-more : (n : ℕ) → 10 ≤ n → n < 2 ^ 64 → places n ≡ suc (places (n / 10))
 unfolding places

@@ -1,11 +1,11 @@
 -- 01, Day sheet and its program: "Fields are decimal". A number as text, each byte an ASCII code, and text put into bytes.
+use mathlib.Core.Bool.{cond}
 use mathlib.Core.Path.{_≡_}
 use mathlib.Core.List.{List, [], _∷_, _++_}
 use Prim.Native.Nat.{ℕ, zero, suc, _+_, _/_, _%_, _^_, _<_}
 use lib.Dec.{ltb}
 use lib.IntN.{ℤ, pos, negsuc}
 use lib.ListN.{length, set}
-use Rattle.terms.specs.Rule.{numberIf}
 
 -- the last k digits, the most significant first
 unfoldable pub digits : ℕ → ℕ → List ℕ
@@ -15,7 +15,7 @@ digits (suc k) n = digits k (n / 10) ++ ((48 + n % 10) ∷ [])
 -- how many digits a number has, at least one and at most `most`
 unfoldable pub placesIn : ℕ → ℕ → ℕ
 placesIn zero n = 0
-placesIn (suc most) n = numberIf (ltb n 10) 1 (suc (placesIn most (n / 10)))
+placesIn (suc most) n = cond (ltb n 10) 1 (suc (placesIn most (n / 10)))
 
 -- 20 digits hold every number of 64 bits
 abbrev pub placesMost : ℕ

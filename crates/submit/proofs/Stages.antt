@@ -1,6 +1,6 @@
 -- The decision, stage by stage: what the area is, the two stages of numbers that write nothing, and the judgement.
 use mathlib.Core.Path.{_≡_, refl, ap, _∙_}
-use mathlib.Core.Bool.{Bool, true, false, not, _&&_, and-eq-true-iff}
+use mathlib.Core.Bool.{Bool, true, false, not, _&&_, and-eq-true-iff, cond}
 use mathlib.Core.List.{List, [], _∷_, _++_}
 use Prim.Native.Nat.{ℕ}
 use lib.Dec.{eqb}
@@ -9,7 +9,7 @@ use borrow.Author.Tests.{not-true}
 use Rattle.terms.specs.declared.submission.Submission.{Submission}
 use Rattle.terms.specs.Entry.{slotAt, recentOf}
 use Rattle.terms.specs.Number.{accepted, noMeter, damaged, readEE, readEF}
-use Rattle.terms.specs.Rule.{Rule, numberIf, firstBroken}
+use Rattle.terms.specs.Rule.{Rule, firstBroken}
 use Rattle.rules.specs.declared.indicator.Indicated.the-variants.{Denied, Unclear, Flag}
 use Rattle.rules.specs.Indicator.{indicatedNumber, indicatedFlag}
 use Rattle.rules.specs.Volume.{advanceOver, volumeNumber}
@@ -18,11 +18,11 @@ use Rattle.journal.specs.declared.survey.Surveyed.{Surveyed}
 use Rattle.journal.specs.declared.survey.Surveyed.the-variants.{Zero, Damaged, Sound}
 use Rattle.journal.specs.Journal.{Journal, journalOf, allZero, standing, kept}
 use Rattle.journal.specs.Sound.{isSound}
-use Rattle.journal.specs.Survey.{pickSurveyed, surveyed}
+use Rattle.journal.specs.Survey.{surveyed}
 use Rattle.calls.specs.Calls.{isVolumeQuery, submittedAdvance}
 use Rattle.calls.specs.Checks.{isDenied, isUnclear, indicatedIn, submitRules, submitChecks}
 use Rattle.submit.specs.declared.decide.Decision.{Decision}
-use Rattle.submit.specs.Decision.{pickDecision, refusedDecision, decided, decidedIn, decisionOf, earlyRules, lateRules, judgedRules, surveyFor}
+use Rattle.submit.specs.Decision.{refusedDecision, decided, decidedIn, decisionOf, earlyRules, lateRules, judgedRules, surveyFor}
 
 -- ---- what a survey of the area says of the decision
 abbrev pub Means : Submission → List ℕ → Surveyed → Type 0
@@ -33,7 +33,7 @@ Means s area (Sound v) =
     × (decisionOf s area ≡ decidedIn s (journalOf area) (firstBroken (submitRules s (journalOf area))))
 
 module _ (s : Submission) (area : List ℕ) where
-  by-tests : (zero sound : Bool) → allZero area ≡ zero → isSound area ≡ sound → Means s area (pickSurveyed zero Zero (pickSurveyed sound (Sound (surveyFor s (journalOf area))) Damaged))
+  by-tests : (zero sound : Bool) → allZero area ≡ zero → isSound area ≡ sound → Means s area (cond zero Zero (cond sound (Sound (surveyFor s (journalOf area))) Damaged))
   unfolding decisionOf decidedIn decided submitChecks
   by-tests true sound z t = rw z
   by-tests false true z t = (refl, rw (z, t))
@@ -54,9 +54,9 @@ allWriteNothing (r ∷ rs) = writesNothing (r .number) && allWriteNothing rs
 module _ (s : Submission) (j : Journal) where
   -- the decision where the stage gives n, and the rules after it m
   abbrev after : ℕ → ℕ → Decision
-  after n m = pickDecision (eqb n accepted) (decidedIn s j m) (refusedDecision n)
+  after n m = cond (eqb n accepted) (decidedIn s j m) (refusedDecision n)
 
-  one-rule : (b : Bool) (n k rest whole : ℕ) → writesNothing n ≡ true → decidedIn s j whole ≡ after k rest → decidedIn s j (numberIf b n whole) ≡ after (numberIf b n k) rest
+  one-rule : (b : Bool) (n k rest whole : ℕ) → writesNothing n ≡ true → decidedIn s j whole ≡ after k rest → decidedIn s j (cond b n whole) ≡ after (cond b n k) rest
   unfolding decidedIn decided
   one-rule true n k rest whole h e =
       let both = and-eq-true-iff _ _ .0 h in
@@ -76,11 +76,11 @@ module _ (s : Submission) (j : Journal) where
   abbrev late : ℕ
   late = firstBroken (lateRules s j)
 
-  pub in-stages : decidedIn s j (firstBroken (submitRules s j)) ≡ pickDecision (eqb early accepted) (pickDecision (eqb late accepted) (decidedIn s j (firstBroken (judgedRules s j))) (refusedDecision late)) (refusedDecision early)
+  pub in-stages : decidedIn s j (firstBroken (submitRules s j)) ≡ cond (eqb early accepted) (cond (eqb late accepted) (decidedIn s j (firstBroken (judgedRules s j))) (refusedDecision late)) (refusedDecision early)
   unfolding submitRules earlyRules lateRules judgedRules
   in-stages =
       one-stage (earlyRules s j) (lateRules s j ++ judgedRules s j) refl
-      ∙ ap (λ (d : Decision). pickDecision (eqb early accepted) d (refusedDecision early)) (one-stage (lateRules s j) (judgedRules s j) refl)
+      ∙ ap (λ (d : Decision). cond (eqb early accepted) d (refusedDecision early)) (one-stage (lateRules s j) (judgedRules s j) refl)
 
   -- ---- the judgement, by what the indicator makes of the detection
   abbrev judged : Decision

@@ -1,5 +1,5 @@
 -- 01, Calls: the decision on a submission, apart from the writing, and the stages in which it is reached.
-use mathlib.Core.Bool.{Bool, true, false}
+use mathlib.Core.Bool.{Bool, true, false, cond}
 use mathlib.Core.List.{List}
 use Prim.Native.Nat.{ℕ}
 use lib.Dec.{eqb}
@@ -16,12 +16,8 @@ use Rattle.journal.specs.declared.survey.Survey.{Survey}
 use Rattle.journal.specs.Journal.{Journal, journalOf, kept}
 use Rattle.journal.specs.Survey.{surveyOf}
 use Rattle.calls.specs.Checks.{submitRules, submitChecks, takenFlag}
-use Rattle.calls.specs.Calls.{entryFor, isVolumeQuery, submittedAdvance, pickBytes}
+use Rattle.calls.specs.Calls.{entryFor, isVolumeQuery, submittedAdvance}
 use Rattle.submit.specs.declared.decide.Decision.{Decision}
-
-abbrev pub pickDecision : Bool → Decision → Decision → Decision
-pickDecision true a b = a
-pickDecision false a b = b
 
 -- "Every number but 0 comes with zeros in the other fields and changes no byte", but for 19 and 20
 abbrev pub refusedDecision : ℕ → Decision
@@ -30,9 +26,9 @@ refusedDecision number = record { number = number; flag = 0; advance = pos 0; at
 -- the number; for an accepted read its flag and advance; for 19 and 20 the flag that is stored; and after how many entries it is written
 unfoldable pub decided : ℕ → ℕ → ℤ → ℕ → Decision
 decided number flag advance at =
-    pickDecision (eqb number accepted)
+    cond (eqb number accepted)
     (record { number = accepted; flag = flag; advance = advance; at = at })
-    (pickDecision (isVolumeQuery number)
+    (cond (isVolumeQuery number)
     (record { number = number; flag = flag; advance = pos 0; at = at })
     (refusedDecision number))
 
@@ -64,16 +60,12 @@ surveyFor s j = surveyOf (s .day) (s .value) j
 -- "accepted, the read is written as kind 2 .. With 19 or 20 it is written there as kind 4 with its flag"
 unfoldable pub storedBy : Decision → Submission → List ℕ → List ℕ
 storedBy d s area =
-    pickBytes (eqb (d .number) accepted)
+    cond (eqb (d .number) accepted)
     (putEntry area (entryStart (d .at)) (entryFor kindStanding s (d .flag)))
-    (pickBytes (isVolumeQuery (d .number))
+    (cond (isVolumeQuery (d .number))
     (putEntry area (entryStart (d .at)) (entryFor kindHeld s (d .flag)))
     area)
 
-abbrev pub pickAnswer : Bool → Answer → Answer → Answer
-pickAnswer true a b = a
-pickAnswer false a b = b
-
 -- it answers "its flag and a"
 unfoldable pub answerOf : Decision → Answer
-answerOf d = pickAnswer (eqb (d .number) accepted) (answer (d .number) (d .flag) (d .advance)) (refusal (d .number))
+answerOf d = cond (eqb (d .number) accepted) (answer (d .number) (d .flag) (d .advance)) (refusal (d .number))

@@ -1,5 +1,5 @@
 -- 00, demand 2: "accepted if its rules accept, otherwise the number of the first rule broken". An order of checks is a list of rules.
-use mathlib.Core.Bool.{Bool, true, false}
+use mathlib.Core.Bool.{Bool, true, false, cond}
 use mathlib.Core.List.{List, [], _∷_}
 use Prim.Native.Nat.{ℕ}
 use Rattle.terms.specs.Number.{accepted}
@@ -12,11 +12,7 @@ pub record Rule : Type 0 where
 abbrev pub rule : ℕ → Bool → Rule
 rule number broken = record { number = number; broken = broken }
 
-abbrev pub numberIf : Bool → ℕ → ℕ → ℕ
-numberIf true a b = a
-numberIf false a b = b
-
 -- the number of the first rule broken, and 0 where none is
 abbrev pub firstBroken : List Rule → ℕ
 firstBroken [] = accepted
-firstBroken (r ∷ rs) = numberIf (r .broken) (r .number) (firstBroken rs)
+firstBroken (r ∷ rs) = cond (r .broken) (r .number) (firstBroken rs)

@@ -1,4 +1,5 @@
 -- The count from k on, of those that may still come, is the count of the area: each turn takes one step of its definition.
+use mathlib.Core.Bool.{cond}
 use mathlib.Core.Path.{_≡_, refl}
 use mathlib.Core.List.{List}
 use Prim.Native.Nat.{ℕ, suc, _+_, _-_, _≤_, _<_}
@@ -6,7 +7,6 @@ use native.Mathlib.Numerals.{add-one}
 use native.Mathlib.Omega.{arith}
 use borrow.Author.Tests.{ne-eqb}
 use lib.Dec.{eqb}
-use Rattle.terms.specs.Rule.{numberIf}
 use Rattle.register.specs.Bytes.{byteAt}
 use Rattle.register.specs.Entries.{entryStart}
 use Rattle.journal.specs.Journal.{maxEntries, countFrom, entryCount}
@@ -20,7 +20,7 @@ abbrev μ-loop : tie.MeasureT-loop
 μ-loop area k₀ k = maxEntries - k
 
 module _ (k : ℕ) (a : List ℕ) (h : k < maxEntries) where
-  step : countFrom (maxEntries - k) k a ≡ numberIf (eqb (byteAt a (entryStart k)) 0) k (countFrom (maxEntries - (k + 1)) (k + 1) a)
+  step : countFrom (maxEntries - k) k a ≡ cond (eqb (byteAt a (entryStart k)) 0) k (countFrom (maxEntries - (k + 1)) (k + 1) a)
   unfolding countFrom
   step =
       let e : maxEntries - k ≡ suc (maxEntries - (k + 1)) = omega arith in

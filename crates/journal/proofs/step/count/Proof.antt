@@ -1,21 +1,21 @@
 -- What one more entry adds is `counts-more`: each way through the code is one of its cases.
+use mathlib.Core.Bool.{cond}
 use mathlib.Core.Path.{_≡_}
 use mathlib.Core.Logic.{⊎-elim}
 use Prim.Native.Nat.{_+_}
 use borrow.Author.Tests.{eq-eqb, ne-eqb}
 use lib.Dec.{eqb}
-use Rattle.terms.specs.Rule.{numberIf}
 use Rattle.journal.specs.Survey.{isFlagged}
 use Rattle.journal.proofs.Steps.{counts-more}
 use borrow.Author.Needs.{needs}
 use Rattle.journal.proofs.step.count.Statement.{statement}
 use Rattle.journal.proofs.step.count.Tie as tie
 
-flagged-is : (c : tie.Joined2) → let a = c .before .before .before .before .args in c .if2 .flagged ≡ numberIf (isFlagged (a .e)) (a .counts .flagged + 1) (a .counts .flagged)
+flagged-is : (c : tie.Joined2) → let a = c .before .before .before .before .args in c .if2 .flagged ≡ cond (isFlagged (a .e)) (a .counts .flagged + 1) (a .counts .flagged)
 unfolding isFlagged
 flagged-is c = ⊎-elim (λ w. rw (w .2, eq-eqb _ _ (w .0 .taken))) (λ w. rw (w .1, ne-eqb _ _ (w .0 .left))) (c .if2 .came)
 
-first-is : (c : tie.Joined3) → let a = c .before .before .before .before .before .before .args in c .if3 .first ≡ numberIf (eqb (a .counts .standing) 0) (a .e .value) (a .counts .first)
+first-is : (c : tie.Joined3) → let a = c .before .before .before .before .before .before .args in c .if3 .first ≡ cond (eqb (a .counts .standing) 0) (a .e .value) (a .counts .first)
 first-is c = ⊎-elim (λ w. rw (w .1, eq-eqb _ _ (w .0 .taken))) (λ w. rw (w .1, ne-eqb _ _ (w .0 .left))) (c .if3 .came)
 
 is-standing-requires : tie.Need-is-standing-requires

@@ -1,6 +1,6 @@
 -- The area is not all zero, so it is sound or damaged, and each test decides one part of the definition of sound.
 use mathlib.Core.Path.{_≡_, refl, ap, sym, _∙_}
-use mathlib.Core.Bool.{Bool, true, false, _&&_}
+use mathlib.Core.Bool.{Bool, true, false, _&&_, cond}
 use mathlib.Core.List.{List}
 use Prim.Native.Nat.{ℕ, _≤_}
 use native.Mathlib.Omega.{arith}
@@ -16,14 +16,14 @@ use Rattle.journal.specs.declared.survey.Surveyed.{Surveyed}
 use Rattle.journal.specs.declared.survey.Surveyed.the-variants.{Damaged, Sound}
 use Rattle.journal.specs.Journal.{maxEntries, allZero, entriesTo, entryCount, journalOf, standing, withdrawn}
 use Rattle.journal.specs.Sound.{isMeter, areApart, areSound, isSound}
-use Rattle.journal.specs.Survey.{passOf, surveyOf, pickSurveyed, surveyed}
+use Rattle.journal.specs.Survey.{passOf, surveyOf, surveyed}
 use Rattle.journal.proofs.Entries.{length-entries, count-at-most}
 use Rattle.journal.proofs.survey.survey_journal.Statement.{statement}
 use Rattle.journal.proofs.survey.survey_journal.Tie as tie
 
 module _ (day value : ℕ) (a : List ℕ) where
   abbrev verdict : Bool → Surveyed
-  verdict sound = pickSurveyed sound (Sound (surveyOf day value (journalOf a))) Damaged
+  verdict sound = cond sound (Sound (surveyOf day value (journalOf a))) Damaged
 
   -- 512 bytes that are not all zero, by the three tests
   judged : {first ends parts : Bool} → (length a ≡ areaBytes) × (allZero a ≡ false) → isMeter a ≡ first → allZero (drop (entryStart (entryCount a)) a) ≡ ends → areSound (tenTo (journalOf a .dials)) (journalOf a .entries) ≡ parts → surveyed day value a ≡ verdict (first && (ends && parts))

@@ -1,6 +1,6 @@
 -- A length that is not 0 is that of a journal's entries, so the part lies within the place's area.
 use mathlib.Core.Path.{_≡_, refl, _∙_}
-use mathlib.Core.Bool.{Bool, true, false}
+use mathlib.Core.Bool.{Bool, true, false, cond}
 use mathlib.Core.List.{List}
 use mathlib.Core.Logic.{_≢_}
 use Prim.Native.Nat.{ℕ, _+_, _*_, _-_, _≤_, _<_}
@@ -9,7 +9,7 @@ use borrow.Author.Tests.{eqb-true}
 use lib.Dec.{eqb}
 use lib.ListN.{length}
 use Rattle.terms.specs.Number.{accepted}
-use Rattle.terms.specs.Rule.{firstBroken, numberIf}
+use Rattle.terms.specs.Rule.{firstBroken}
 use Rattle.register.specs.Area.{areaBytes, areas, areaOf}
 use Rattle.register.specs.Entries.{entryStart}
 use Rattle.journal.specs.Journal.{entryCount}
@@ -21,7 +21,7 @@ use borrow.Author.Needs.{needs}
 use Rattle.meter.proofs.part.journal.Statement.{statement}
 use Rattle.meter.proofs.part.journal.Tie as tie
 
-some : (placed reported : Bool) (n : ℕ) → numberIf placed (numberIf reported n 0) 0 ≢ 0 → (placed ≡ true) × (numberIf placed (numberIf reported n 0) 0 ≡ n)
+some : (placed reported : Bool) (n : ℕ) → cond placed (cond reported n 0) 0 ≢ 0 → (placed ≡ true) × (cond placed (cond reported n 0) 0 ≡ n)
 some true true n h = (refl, refl)
 some true false n h = absurd (h refl)
 some false reported n h = absurd (h refl)

@@ -1,6 +1,6 @@
 -- The place and then the area are checked as the step has it; what is lent is the area, and what comes back is the register with the read withdrawn.
 use mathlib.Core.Path.{_≡_, sym, _∙_}
-use mathlib.Core.Bool.{Bool, true, false}
+use mathlib.Core.Bool.{Bool, true, false, cond}
 use mathlib.Core.List.{List}
 use Prim.Native.Nat.{ℕ}
 use native.Mathlib.Omega.{arith}
@@ -18,7 +18,7 @@ use Rattle.calls.specs.declared.call.Reply.the-variants.{Answered}
 use Rattle.meter.specs.declared.withdraw.Decided.the-variants.{Refused, Taken}
 use Rattle.calls.specs.Checks.{withdrawChecks}
 use Rattle.calls.specs.Calls.{acted, withdrawnAnswer, withdrawnBytes, withdrawIn, act, placeOf, refusalOf}
-use Rattle.meter.specs.Withdrawal.{pickDecided, withdrawDecided}
+use Rattle.meter.specs.Withdrawal.{withdrawDecided}
 use Rattle.meter.proofs.Placed.{placed, refuses, writes, keeps}
 use borrow.Author.Needs.{needs}
 use Rattle.meter.proofs.withdraw.withdraw.Statement.{statement}
@@ -26,11 +26,11 @@ use Rattle.meter.proofs.withdraw.withdraw.Tie as tie
 
 -- by whether the checks accept
 module _ (v : Survey) (n : ℕ) where
-  refused-if : (accepts : Bool) {number : ℕ} → pickDecided accepts (Taken v) (Refused n) ≡ Refused number → (accepts ≡ false) × (n ≡ number)
+  refused-if : (accepts : Bool) {number : ℕ} → cond accepts (Taken v) (Refused n) ≡ Refused number → (accepts ≡ false) × (n ≡ number)
   refused-if true e = (cc, cc)
   refused-if false e = (cc, cc)
 
-  taken-if : (accepts : Bool) {w : Survey} → pickDecided accepts (Taken v) (Refused n) ≡ Taken w → (accepts ≡ true) × (w ≡ v)
+  taken-if : (accepts : Bool) {w : Survey} → cond accepts (Taken v) (Refused n) ≡ Taken w → (accepts ≡ true) × (w ≡ v)
   taken-if true e = (cc, cc)
   taken-if false e = (cc, cc)
 

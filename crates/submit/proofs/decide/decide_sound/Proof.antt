@@ -1,4 +1,5 @@
 -- The first stage that gives a number decides.
+use mathlib.Core.Bool.{cond}
 use mathlib.Core.Path.{_≡_}
 use lib.Dec.{eqb}
 use borrow.Author.Tests.{ne-eqb, eq-eqb}
@@ -6,13 +7,13 @@ use Rattle.terms.specs.Number.{accepted}
 use Rattle.terms.specs.Rule.{firstBroken}
 use Rattle.journal.specs.Journal.{Journal}
 use Rattle.calls.specs.Checks.{submitRules}
-use Rattle.submit.specs.Decision.{pickDecision, refusedDecision, decidedIn, judgedRules, surveyFor}
+use Rattle.submit.specs.Decision.{refusedDecision, decidedIn, judgedRules, surveyFor}
 use Rattle.submit.proofs.Stages.{in-stages}
 use borrow.Author.Needs.{needs}
 use Rattle.submit.proofs.decide.decide_sound.Statement.{statement}
 use Rattle.submit.proofs.decide.decide_sound.Tie as tie
 
-past-early : (c : tie.After-late-number) (j : Journal) → c .before .before .before .args .v ≡ surveyFor (c .before .before .before .args .s) j → decidedIn (c .before .before .before .args .s) j (firstBroken (submitRules (c .before .before .before .args .s) j)) ≡ pickDecision (eqb (c .late-number .result) accepted) (decidedIn (c .before .before .before .args .s) j (firstBroken (judgedRules (c .before .before .before .args .s) j))) (refusedDecision (c .late-number .result))
+past-early : (c : tie.After-late-number) (j : Journal) → c .before .before .before .args .v ≡ surveyFor (c .before .before .before .args .s) j → decidedIn (c .before .before .before .args .s) j (firstBroken (submitRules (c .before .before .before .args .s) j)) ≡ cond (eqb (c .late-number .result) accepted) (decidedIn (c .before .before .before .args .s) j (firstBroken (judgedRules (c .before .before .before .args .s) j))) (refusedDecision (c .late-number .result))
 past-early c j e = rw (in-stages, ← c .before .before .early-number .ensures j e, eq-eqb _ _ (c .before .if1 .left), ← c .late-number .ensures j e)
 
 early-number-requires : tie.Need-early-number-requires
