@@ -3,6 +3,8 @@
 //! A call is picked with an eye on the register that it meets, so that lists get past the first checks and reach deep
 //! states: long journals, rollovers, held reads, withdrawals. What an answer should be is not decided here.
 
+#![allow(dead_code)]
+
 use necktureen::{Submission, AREA_BYTES, REGISTER_BYTES};
 
 /// A generator of random numbers (splitmix64): the same seed gives the same numbers.
