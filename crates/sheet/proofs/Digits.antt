@@ -29,20 +29,9 @@ pub decimal-length : (n : ℕ) → length (decimal n) ≤ placesMost
 unfolding decimal places
 decimal-length n = rw digits-length (places-most placesMost n)
 
--- ---- how many a small number has
+-- ---- a tenth has a digit less
 tenth : (k n : ℕ) → n < 10 ^ suc k → n / 10 < 10 ^ k
 tenth k n h = omega (arith, rw (pow-suc 10 k) at h)
-
-places-few : (most k n : ℕ) → n < 10 ^ suc k → placesIn most n ≤ suc k
-unfolding placesIn
-places-few zero k n h = omega arith
-places-few (suc most) zero n h = rw (lt-ltb n 10 h) (omega arith)
-places-few (suc most) (suc k) n h = few (ltb n 10) (places-few most k (n / 10) (tenth (suc k) n h))
-
--- a number below 256 has at most three
-pub byte-length : (n : ℕ) → n < 256 → length (decimal n) ≤ 3
-unfolding decimal places
-byte-length n h = rw digits-length (places-few placesMost 2 n (omega arith))
 
 -- ---- all but the last
 places-step : (most n : ℕ) → placesIn (suc most) n ≡ cond (ltb n 10) 1 (suc (placesIn most (n / 10)))

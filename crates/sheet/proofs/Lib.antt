@@ -3,3 +3,4 @@ pub mod Digits
 pub mod Negated
 pub mod Pasted
 pub mod Shown
+pub mod Turns

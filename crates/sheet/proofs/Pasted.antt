@@ -6,16 +6,13 @@ use native.Mathlib.Nat.{add-zero}
 use native.Mathlib.Numerals.{add-one}
 use native.Mathlib.Omega.{arith}
 use lib.ListN.{length, set, take, drop, length-append}
-use lib.Seq.{sets, length-sets, sets-eq, length-take-le, take-at}
+use lib.Seq.{sets, sets-eq, length-take-le, take-at}
 use Rattle.sheet.specs.Decimal.{putBytes, Put, Room}
 
 put-sets : (out : List ℕ) (at : ℕ) (bs : List ℕ) → putBytes out at bs ≡ sets out at bs
 unfolding putBytes
 put-sets out at [] = refl
 put-sets out at (b ∷ bs) = rw add-one (put-sets (set out at b) (suc at) bs)
-
-pub put-length : (out : List ℕ) (at : ℕ) (bs : List ℕ) → length (putBytes out at bs) ≡ length out
-put-length out at bs = rw put-sets (length-sets out at bs)
 
 -- what stands before the end of text that was put
 pub put-take : (out : List ℕ) (at : ℕ) (bs : List ℕ) → at + length bs ≤ length out → take (at + length bs) (putBytes out at bs) ≡ take at out ++ bs

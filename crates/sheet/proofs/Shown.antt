@@ -1,5 +1,5 @@
 -- The lines of the paper, byte by byte, and how long a line is.
-use mathlib.Core.Path.{_≡_, refl}
+use mathlib.Core.Path.{_≡_, refl, ap}
 use mathlib.Core.List.{[], _∷_}
 use Prim.Native.Nat.{ℕ, suc, _+_, _≤_, _<_, _^_}
 use native.Mathlib.Omega.{arith}
@@ -11,12 +11,15 @@ use Rattle.calls.specs.declared.call.Reply.{Reply}
 use Rattle.calls.specs.declared.call.Reply.the-variants.{Answered, Reported}
 use Rattle.sheet.specs.Decimal.{digits, placesIn, places, decimal, signed, Room}
 use Rattle.sheet.specs.Line.{field, lastField, lineOf, faultLine}
-use Rattle.sheet.proofs.Digits.{decimal-length, byte-length}
+use Rattle.sheet.proofs.Digits.{decimal-length}
 
 -- ---- `26 0 0`, and two lines of case S: `0 1 -500` and `0 3 0 400`
 pub fault-line : faultLine ≡ 50 ∷ 54 ∷ 32 ∷ 48 ∷ 32 ∷ 48 ∷ 10 ∷ []
 unfolding digits placesIn places decimal signed field lastField lineOf
 fault-line = refl
+
+pub fault-length : length faultLine ≡ 7
+fault-length = ap length fault-line
 
 withdrawn-line : lineOf (Answered (answer 0 1 (negsuc 499))) ≡ 48 ∷ 32 ∷ 49 ∷ 32 ∷ 45 ∷ 53 ∷ 48 ∷ 48 ∷ 10 ∷ []
 unfolding digits placesIn places decimal signed field lastField lineOf
@@ -40,35 +43,14 @@ last-most : (z : ℤ) → length (lastField z) ≤ 22
 unfolding lastField
 last-most z = simp length-append (omega (arith, signed-most z))
 
-answer-most : (a : Answer) → length (lineOf (Answered a)) ≤ 64
-unfolding lineOf
-answer-most a =
-    simp length-append (omega (arith, field-most (a .number), field-most (a .flag), last-most (a .advance)))
-
 -- of any reply
 pub line-most : (reply : Reply) → length (lineOf reply) ≤ 85
 unfolding lineOf
-line-most (Answered a) = omega (arith, answer-most a)
+line-most (Answered a) =
+    simp length-append (omega (arith, field-most (a .number), field-most (a .flag), last-most (a .advance)))
 line-most (Reported r) =
     simp length-append
     (omega (arith, field-most (r .number), field-most (r .standing), field-most (r .flagged), last-most (r .total)))
 
 pub line-room : (at : ℕ) (reply : Reply) → at + 85 < 2 ^ 64 → Room at (lineOf reply)
 line-room at reply h = record { fits = omega (arith, line-most reply) }
-
--- of a reply whose fields fit their types; of an answer nothing is asked, since 64 bytes hold two fields of 20 digits and a signed one
-byte-field : (n : ℕ) → n < 256 → length (field n) ≤ 4
-unfolding field
-byte-field n h = simp length-append (omega (arith, byte-length n h))
-
--- the fields of one byte
-abbrev pub Bytes : Reply → Type 0
-Bytes (Answered a) = Unit {0}
-Bytes (Reported r) = (r .number < 256) × (r .standing < 256) × (r .flagged < 256)
-
-pub line-length : (reply : Reply) → Bytes reply → length (lineOf reply) ≤ 64
-unfolding lineOf
-line-length (Answered a) h = answer-most a
-line-length (Reported r) h =
-    simp length-append
-    (omega (arith, byte-field (r .number) (h .0), byte-field (r .standing) (h .1), byte-field (r .flagged) (h .2), last-most (r .total)))

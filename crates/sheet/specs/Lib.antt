@@ -1,3 +1,5 @@
 pub mod Sheet
 pub mod Decimal
 pub mod Line
+pub mod Play
+pub mod Turn

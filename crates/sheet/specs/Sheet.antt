@@ -1,5 +1,5 @@
 -- 01, Day sheet and its program: the calls that a sheet holds. "Kind byte, then body".
-use mathlib.Core.Bool.{Bool, true, false}
+use mathlib.Core.Bool.{Bool, true, false, cond}
 use mathlib.Core.List.{List, [], _∷_}
 use Prim.Native.Nat.{ℕ, zero, suc, _+_}
 use lib.Dec.{eqb, leb, ltb}
@@ -66,26 +66,22 @@ module _ (sheet : List ℕ) (i : ℕ) where
   unfoldable pub reportAt : Call
   reportAt = Ask (byteAt sheet i)
 
-abbrev pub pickNext : Bool → Next → Next → Next
-pickNext true a b = a
-pickNext false a b = b
-
 -- the call of a body that is there whole, and where the next entry starts; a cut body is a fault
 unfoldable pub bodyAt : List ℕ → ℕ → ℕ → Call → Next
-bodyAt sheet at body call = pickNext (leb (at + 1 + body) (length sheet)) (Found call (at + 1 + body)) Fault
+bodyAt sheet at body call = cond (leb (at + 1 + body) (length sheet)) (Found call (at + 1 + body)) Fault
 
 -- what stands at a place of a sheet: its end, a call, or a fault
 unfoldable pub nextAt : List ℕ → ℕ → Next
 nextAt sheet at =
-    pickNext (leb (length sheet) at)
+    cond (leb (length sheet) at)
     End
-    (pickNext (eqb (byteAt sheet at) kindEnrol)
+    (cond (eqb (byteAt sheet at) kindEnrol)
     (bodyAt sheet at enrolBody (enrolAt sheet (at + 1)))
-    (pickNext (eqb (byteAt sheet at) kindSubmit)
+    (cond (eqb (byteAt sheet at) kindSubmit)
     (bodyAt sheet at submitBody (submitAt sheet (at + 1)))
-    (pickNext (eqb (byteAt sheet at) kindWithdraw)
+    (cond (eqb (byteAt sheet at) kindWithdraw)
     (bodyAt sheet at withdrawBody (withdrawAt sheet (at + 1)))
-    (pickNext (eqb (byteAt sheet at) kindReport)
+    (cond (eqb (byteAt sheet at) kindReport)
     (bodyAt sheet at reportBody (reportAt sheet (at + 1)))
     Fault))))
 
@@ -104,13 +100,9 @@ unfoldable pub splitFrom : ℕ → List ℕ → ℕ → Split
 splitFrom zero sheet at = record { calls = []; faulty = false }
 splitFrom (suc left) sheet at = goOn (nextAt sheet at) (λ next. splitFrom left sheet next)
 
-abbrev pub pickSplit : Bool → Split → Split → Split
-pickSplit true a b = a
-pickSplit false a b = b
-
 -- "an over-long sheet gives that line alone"
 unfoldable pub splitOf : List ℕ → Split
 splitOf sheet =
-    pickSplit (ltb sheetMost (length sheet))
+    cond (ltb sheetMost (length sheet))
     (record { calls = []; faulty = true })
     (splitFrom (suc (length sheet)) sheet 0)

@@ -1,6 +1,6 @@
 -- The tests come in the definition's order, and each kind's function gives what stands there.
 use mathlib.Core.Path.{_≡_, refl}
-use mathlib.Core.Bool.{Bool}
+use mathlib.Core.Bool.{Bool, cond}
 use mathlib.Core.List.{List}
 use Prim.Native.Nat.{ℕ, _+_}
 use borrow.Author.Tests.{le-leb, lt-leb, eq-eqb, ne-eqb}
@@ -9,7 +9,7 @@ use lib.ListN.{length}
 use Rattle.register.specs.Bytes.{byteAt}
 use Rattle.sheet.specs.declared.split.Next.{Next}
 use Rattle.sheet.specs.declared.split.Next.the-variants.{End, Fault}
-use Rattle.sheet.specs.Sheet.{kindEnrol, enrolBody, kindSubmit, submitBody, kindWithdraw, withdrawBody, kindReport, reportBody, enrolAt, submitAt, withdrawAt, reportAt, pickNext, bodyAt, nextAt}
+use Rattle.sheet.specs.Sheet.{kindEnrol, enrolBody, kindSubmit, submitBody, kindWithdraw, withdrawBody, kindReport, reportBody, enrolAt, submitAt, withdrawAt, reportAt, bodyAt, nextAt}
 use borrow.Author.Needs.{needs}
 use Rattle.sheet.proofs.split.next_at.Statement.{statement}
 use Rattle.sheet.proofs.split.next_at.Tie as tie
@@ -19,7 +19,7 @@ module _ (sheet : List ℕ) (at : ℕ) where
   abbrev kind : ℕ
   kind = byteAt sheet at
 
-  next-is : {ends enrols submits withdraws reports : Bool} → leb (length sheet) at ≡ ends → eqb kind kindEnrol ≡ enrols → eqb kind kindSubmit ≡ submits → eqb kind kindWithdraw ≡ withdraws → eqb kind kindReport ≡ reports → {r : Next} → r ≡ pickNext ends End (pickNext enrols (bodyAt sheet at enrolBody (enrolAt sheet (at + 1))) (pickNext submits (bodyAt sheet at submitBody (submitAt sheet (at + 1))) (pickNext withdraws (bodyAt sheet at withdrawBody (withdrawAt sheet (at + 1))) (pickNext reports (bodyAt sheet at reportBody (reportAt sheet (at + 1))) Fault)))) → r ≡ nextAt sheet at
+  next-is : {ends enrols submits withdraws reports : Bool} → leb (length sheet) at ≡ ends → eqb kind kindEnrol ≡ enrols → eqb kind kindSubmit ≡ submits → eqb kind kindWithdraw ≡ withdraws → eqb kind kindReport ≡ reports → {r : Next} → r ≡ cond ends End (cond enrols (bodyAt sheet at enrolBody (enrolAt sheet (at + 1))) (cond submits (bodyAt sheet at submitBody (submitAt sheet (at + 1))) (cond withdraws (bodyAt sheet at withdrawBody (withdrawAt sheet (at + 1))) (cond reports (bodyAt sheet at reportBody (reportAt sheet (at + 1))) Fault)))) → r ≡ nextAt sheet at
   unfolding nextAt
   next-is ends enrols submits withdraws reports r = rw (ends, enrols, submits, withdraws, reports) r
 

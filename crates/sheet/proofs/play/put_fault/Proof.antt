@@ -1,0 +1,21 @@
+-- The line of a refusal with the sheet's number.
+use borrow.Author.Needs.{needs}
+use Rattle.sheet.proofs.play.put_fault.Statement.{statement}
+use Rattle.sheet.proofs.play.put_fault.Tie as tie
+
+refuse-requires : tie.Need-refuse-requires
+refuse-requires c κs = search needs
+
+put-reply-requires : tie.Need-put-reply-requires
+put-reply-requires c κs = rw (c .refuse .ensures) (c .before .before .before .pre)
+
+same-length : tie.Need-same-length
+same-length c = search needs
+
+returns : tie.Need-returns
+returns c =
+    let put = c .before .before in
+    rw (put .before .refuse .ensures) at (put .put-reply .ensures)
+
+pub put-fault-spec : {M : Type 1} → statement M
+put-fault-spec = tie.close (tie.spec refuse-requires put-reply-requires same-length returns)

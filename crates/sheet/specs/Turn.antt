@@ -1,0 +1,37 @@
+-- One turn of the loop over a sheet, for the contract of the function that takes it: what is played from there on makes the whole.
+use mathlib.Core.Path.{_≡_}
+use mathlib.Core.List.{List}
+use Prim.Native.Nat.{ℕ, suc, _*_, _≤_, _<_}
+use lib.ListN.{length}
+use Rattle.calls.specs.Play.{registerAfter}
+use Rattle.sheet.specs.declared.play.Progress.{Progress}
+use Rattle.sheet.specs.Sheet.{Split, sheetMost, splitFrom}
+use Rattle.sheet.specs.Decimal.{Put}
+use Rattle.sheet.specs.Play.{textFrom, printedMost}
+
+-- where play stands: the register, the bytes for the text, and where the text ends
+pub record State : Type 0 where
+  pub register : List ℕ
+  pub out : List ℕ
+  pub end : ℕ
+
+abbrev pub state : List ℕ → List ℕ → ℕ → State
+state register out end = record { register = register; out = out; end = end }
+
+-- `whole` played from `from` ends as `rest` played from `to` does
+pub record Leads (whole : Split) (from : State) (rest : Split) (to : State) : Type 0 where
+  pub register-is : registerAfter (rest .calls) (to .register) ≡ registerAfter (whole .calls) (from .register)
+  pub text-is : (after : List ℕ) (end : ℕ) → Put (to .out) (to .end) (textFrom rest (to .register)) after end → Put (from .out) (from .end) (textFrom whole (from .register)) after end
+
+-- before a turn: an entry starts at `at`, and the text so far has the length that it may have
+pub record Due (sheet : List ℕ) (at end : ℕ) : Type 0 where
+  pub short : length sheet ≤ sheetMost
+  pub more : at < length sheet
+  pub few : end ≤ printedMost * at
+
+-- after a turn: the place has moved on, and the rest from there, whatever is left of it, ends as the whole does
+pub record Turned (sheet : List ℕ) (at : ℕ) (from : State) (p : Progress) (register out : List ℕ) : Type 0 where
+  pub on : at < p .at
+  pub within : p .at ≤ length sheet
+  pub few : p .end ≤ printedMost * p .at
+  pub leads : (left : ℕ) → Leads (splitFrom (suc left) sheet at) from (splitFrom left sheet (p .at)) (state register out (p .end))

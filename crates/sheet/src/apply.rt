@@ -1,0 +1,29 @@
+// A call of a sheet, carried out.
+ghost use mathlib.Core.Path.{_≡_};
+ghost use Rattle.calls.specs.Calls.{done, step};
+use calls::call::Call;
+use calls::call::Reply;
+use meter::enrol::enrol;
+use meter::report::report;
+use meter::withdraw::withdraw;
+use submit::submit::submit;
+
+pub fn apply(register: &mut [u8], call: Call) -> Reply
+    ensures { λ r. ⌜ done r (now (register .exit)) ≡ step call (now (register .entry)) ⌝ }
+{
+    match call {
+        Call::Enrol {
+            place,
+            dials,
+            capacity,
+        } => Reply::Answered(enrol(register, place, dials, capacity)),
+        Call::Submit { place, read } => Reply::Answered(submit(register, place, read)),
+        Call::Withdraw { place, day, value } => Reply::Answered(withdraw(
+            register,
+            place,
+            day,
+            value,
+        )),
+        Call::Ask { place } => Reply::Reported(report(register, place)),
+    }
+}
