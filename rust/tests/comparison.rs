@@ -7,8 +7,8 @@
 mod lists;
 mod peer;
 
-use lists::{sheet, Call, Random};
-use necktureen::{Answer, Number, Report, AREA_BYTES, REGISTER_BYTES};
+use lists::{library_reply, sheet, Call, Random, Reply};
+use necktureen::{Answer, Number, AREA_BYTES, REGISTER_BYTES};
 use std::collections::BTreeMap;
 use std::fmt::Write as _;
 use std::io::Write;
@@ -21,21 +21,6 @@ const SHEETS: u64 = 400;
 const GUARD: u8 = 0xA5;
 
 // ---- Two registers, one for each side ----
-
-#[derive(Clone, Copy, Debug, PartialEq, Eq)]
-enum Reply {
-    Answer(Answer),
-    Report(Report),
-}
-
-impl Reply {
-    fn number(self) -> Number {
-        match self {
-            Reply::Answer(answer) => answer.number,
-            Reply::Report(report) => report.number,
-        }
-    }
-}
 
 /// The library's register, between guard bytes, and the peer's.
 struct Pair {
@@ -94,16 +79,6 @@ impl Pair {
             return Ok(());
         }
         Err(format!("the library's journal has {} bytes, the peer's {}", library.len(), peer.len()))
-    }
-}
-
-fn library_reply(register: &mut [u8], call: &Call) -> Reply {
-    use necktureen::{enrol, report, submit, withdraw};
-    match *call {
-        Call::Enrol { place, dials, capacity } => Reply::Answer(enrol(register, place, dials, capacity)),
-        Call::Submit { place, read } => Reply::Answer(submit(register, place, read)),
-        Call::Withdraw { place, day, value } => Reply::Answer(withdraw(register, place, day, value)),
-        Call::Report { place } => Reply::Report(report(register, place)),
     }
 }
 

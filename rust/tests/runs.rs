@@ -3,32 +3,8 @@
 
 mod lists;
 
-use lists::{Call, Random};
-use necktureen::{enrol, report, submit, withdraw, Answer, Number, Report, AREA_BYTES, REGISTER_BYTES};
-
-#[derive(Clone, Copy, Debug, PartialEq, Eq)]
-enum Reply {
-    Answer(Answer),
-    Report(Report),
-}
-
-impl Reply {
-    fn number(self) -> Number {
-        match self {
-            Reply::Answer(a) => a.number,
-            Reply::Report(r) => r.number,
-        }
-    }
-}
-
-fn play(register: &mut [u8], call: Call) -> Reply {
-    match call {
-        Call::Enrol { place, dials, capacity } => Reply::Answer(enrol(register, place, dials, capacity)),
-        Call::Submit { place, read } => Reply::Answer(submit(register, place, read)),
-        Call::Withdraw { place, day, value } => Reply::Answer(withdraw(register, place, day, value)),
-        Call::Report { place } => Reply::Report(report(register, place)),
-    }
-}
+use lists::{library_reply, Call, Random, Reply};
+use necktureen::{Answer, Number, AREA_BYTES, REGISTER_BYTES};
 
 /// What a meter's calls and answers come to, and never its bytes.
 #[derive(Default)]
@@ -89,7 +65,7 @@ fn two_runs_agree_at_every_meter() {
         let mut exchanges = Vec::new();
         for _ in 0..2_000 {
             let call = lists::call(&mut random, &a, &places);
-            exchanges.push((call, play(&mut a, call)));
+            exchanges.push((call, library_reply(&mut a, &call)));
         }
         for meter in [0, 1, 2, 31, 63] {
             let mut b = vec![0; REGISTER_BYTES];
@@ -97,7 +73,7 @@ fn two_runs_agree_at_every_meter() {
             for &(call, reply) in exchanges.iter().filter(|(call, _)| call.place() == meter) {
                 in_a.enter(call, reply);
                 if matches!(reply.number(), Number::Accepted | Number::Low | Number::High) {
-                    assert_eq!(play(&mut b, call), reply, "seed {seed}, meter {meter}, {call:?}");
+                    assert_eq!(library_reply(&mut b, &call), reply, "seed {seed}, meter {meter}, {call:?}");
                     in_b.enter(call, reply);
                 }
             }

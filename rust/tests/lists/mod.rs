@@ -5,7 +5,7 @@
 
 #![allow(dead_code)]
 
-use necktureen::{Submission, AREA_BYTES, REGISTER_BYTES};
+use necktureen::{Answer, Number, Report, Submission, AREA_BYTES, REGISTER_BYTES};
 
 /// A generator of random numbers (splitmix64): the same seed gives the same numbers.
 pub struct Random(u64);
@@ -42,6 +42,33 @@ impl Random {
 
     pub fn pick<T: Copy>(&mut self, from: &[T]) -> T {
         from[self.index(from.len())]
+    }
+}
+
+/// The reply to a call.
+#[derive(Clone, Copy, Debug, PartialEq, Eq)]
+pub enum Reply {
+    Answer(Answer),
+    Report(Report),
+}
+
+impl Reply {
+    pub fn number(self) -> Number {
+        match self {
+            Reply::Answer(answer) => answer.number,
+            Reply::Report(report) => report.number,
+        }
+    }
+}
+
+/// The call made on the library.
+pub fn library_reply(register: &mut [u8], call: &Call) -> Reply {
+    use necktureen::{enrol, report, submit, withdraw};
+    match *call {
+        Call::Enrol { place, dials, capacity } => Reply::Answer(enrol(register, place, dials, capacity)),
+        Call::Submit { place, read } => Reply::Answer(submit(register, place, read)),
+        Call::Withdraw { place, day, value } => Reply::Answer(withdraw(register, place, day, value)),
+        Call::Report { place } => Reply::Report(report(register, place)),
     }
 }
 
