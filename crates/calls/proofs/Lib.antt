@@ -19,3 +19,4 @@ pub mod Effects
 pub mod Invariant
 pub mod Chains
 pub mod Known
+pub mod KeptAll

@@ -2,13 +2,13 @@
 use mathlib.Core.Path.{_≡_}
 use mathlib.Core.Bool.{Bool, true, _||_}
 use mathlib.Core.List.{List}
-use Prim.Native.Nat.{ℕ}
+use Prim.Native.Nat.{ℕ, _<_}
 use lib.ListN.{length}
-use Rattle.register.specs.Area.{areaBytes}
+use Rattle.register.specs.Area.{areaBytes, areas, registerBytes, areaOf}
 use Rattle.journal.specs.Journal.{allZero}
 use Rattle.journal.specs.Sound.{isSound}
 use Rattle.calls.specs.declared.call.Call.{Call}
-use Rattle.calls.specs.Calls.{act}
+use Rattle.calls.specs.Calls.{step}
 
 -- all zero ("not enrolled") or sound
 unfoldable pub isGood : List ℕ → Bool
@@ -18,6 +18,11 @@ pub record GoodArea (a : List ℕ) : Type 0 where
   pub size : length a ≡ areaBytes
   pub good : isGood a ≡ true
 
--- THE CLAIM
+-- a register of such areas
+pub record GoodRegister (register : List ℕ) : Type 0 where
+  pub size : length register ≡ registerBytes
+  pub good : (place : ℕ) → place < areas → isGood (areaOf place register) ≡ true
+
+-- THE CLAIM: no call damages an area, so that 4 means damage from outside
 unfoldable pub CallsKeepAreas : Type 0
-CallsKeepAreas = (call : Call) (a : List ℕ) → GoodArea a → GoodArea (act call a .area)
+CallsKeepAreas = (call : Call) (register : List ℕ) → GoodRegister register → GoodRegister (step call register .register)

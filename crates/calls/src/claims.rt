@@ -2,7 +2,7 @@
 ghost use Rattle.calls.specs.DemandThree.{DemandThree};
 ghost use Rattle.calls.specs.Kept.{CallsKeepAreas};
 
-// No call damages an area: one that is all zero or sound stays so.
+// No call damages an area: a register whose areas are all zero or sound stays so.
 pub fn calls_keep_areas()
     ensures { λ _. ⌜ CallsKeepAreas ⌝ }
 {}

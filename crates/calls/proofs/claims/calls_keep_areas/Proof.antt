@@ -1,12 +1,10 @@
--- The claim is the law about the calls.
-use Rattle.calls.specs.Kept.{CallsKeepAreas}
-use Rattle.calls.proofs.Kept.{keeps}
+-- The claim is the law about registers.
+use Rattle.calls.proofs.KeptAll.{keeps-all}
 use Rattle.calls.proofs.claims.calls_keep_areas.Statement.{statement}
 use Rattle.calls.proofs.claims.calls_keep_areas.Tie as tie
 
 returns : tie.Need-returns
-unfolding CallsKeepAreas
-returns c = keeps
+returns c = keeps-all
 
 pub calls-keep-areas-spec : {M : Type 1} → statement M
 calls-keep-areas-spec = tie.close (tie.spec returns)
