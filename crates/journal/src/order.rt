@@ -36,22 +36,31 @@ pub(crate) fn is_final(e: Entry) -> bool
     e.letter == Letter::FINAL
 }
 
-// The ranges of a body's fields; the limit is 10^n.
+// The ranges of a body's fields; the limit is 10^n. Most bodies pass every test, and a branch that is not taken is cheaper than a flag.
 fn is_body(limit: u64, e: Entry) -> bool
     ensures { λ r. ⌜ r ≡ isBody limit e ⌝ }
 {
-    !(e.day == 0)
-        & (((e.value as u64) < limit)
-            & (is_known(e.letter)
-                & ((e.indicator <= Indicator::TRUE)
-                    & ((e.flag <= 1)
-                        & (!is_opening(e.letter) | (e.indicator == Indicator::NOT_SET))))))
+    if e.day == 0 {
+        return false;
+    }
+    let value = e.value as u64;
+    if limit <= value {
+        return false;
+    }
+    if !is_known(e.letter) {
+        return false;
+    }
+    (e.indicator <= Indicator::TRUE)
+        & ((e.flag <= 1) & (!is_opening(e.letter) | (e.indicator == Indicator::NOT_SET)))
 }
 
 fn is_read(limit: u64, e: Entry) -> bool
     ensures { λ r. ⌜ r ≡ isRead limit e ⌝ }
 {
-    (is_standing(e) | (is_withdrawn(e) | is_held(e))) & is_body(limit, e)
+    if !(is_standing(e) | (is_withdrawn(e) | is_held(e))) {
+        return false;
+    }
+    is_body(limit, e)
 }
 
 // The first standing read opens the journal; a later one is later and does not. Whether a read stands, and the day of the last one.
@@ -68,10 +77,15 @@ fn may_stand(e: Entry, stands: bool, last: u16) -> bool
 pub(crate) fn may_follow(limit: u64, e: Entry, stands: bool, last: u16, held: bool, ended: bool) -> bool
     ensures { λ r. ⌜ r ≡ followsBy limit e stands last held ended ⌝ }
 {
-    let second_final = is_final(e) & ended;
-    let body = is_read(limit, e) & !held;
-    if is_standing(e) {
-        return body & (may_stand(e, stands, last) & !second_final);
+    if held {
+        return false;
     }
-    body & (!is_held(e) | (is_holdable(e.letter) & ((stands & (last < e.day)) & !second_final)))
+    if !is_read(limit, e) {
+        return false;
+    }
+    let second_final = is_final(e) & ended;
+    if is_standing(e) {
+        return may_stand(e, stands, last) & !second_final;
+    }
+    !is_held(e) | (is_holdable(e.letter) & ((stands & (last < e.day)) & !second_final))
 }
