@@ -8,8 +8,7 @@ use borrow.Author.Tests.{lt-ltb, le-ltb}
 use lib.Dec.{ltb, leb·suc-suc}
 use lib.ListN.{length, getD, length-map}
 use Rattle.terms.specs.declared.entry.Entry.{Entry}
-use Rattle.terms.specs.declared.entry.Slot.the-variants.{Read, Empty}
-use Rattle.terms.specs.declared.entry.Recent.{Recent}
+use Rattle.terms.specs.declared.entry.Slot.the-variants.{Empty}
 use Rattle.terms.specs.Entry.{isStanding, keepIf, those, slotAt, recentOf}
 use Rattle.register.specs.Entries.{entryStart, entryAt}
 use Rattle.journal.specs.declared.survey.Places.{Places}

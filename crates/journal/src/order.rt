@@ -1,7 +1,6 @@
 // Whether an entry may follow those before it.
 ghost use mathlib.Core.Path.{_≡_};
 ghost use Rattle.terms.specs.Entry.{isStanding, isWithdrawn, isHeld};
-ghost use Rattle.terms.specs.Letter.{isFinal};
 ghost use Rattle.journal.specs.Sound.{isBody, isRead, isFinalRead};
 ghost use Rattle.journal.specs.Loops.{standsBy, followsBy};
 use terms::entry::Entry;
@@ -74,7 +73,14 @@ fn may_stand(e: Entry, stands: bool, last: u16) -> bool
 }
 
 // Most entries stand, and of one that stands nothing is asked of a held read.
-pub(crate) fn may_follow(limit: u64, e: Entry, stands: bool, last: u16, held: bool, ended: bool) -> bool
+pub(crate) fn may_follow(
+    limit: u64,
+    e: Entry,
+    stands: bool,
+    last: u16,
+    held: bool,
+    ended: bool,
+) -> bool
     ensures { λ r. ⌜ r ≡ followsBy limit e stands last held ended ⌝ }
 {
     if held {

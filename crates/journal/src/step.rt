@@ -104,11 +104,7 @@ pub(crate) fn find(found: Found, day: u16, value: u32, e: Entry) -> Found
     }
     let stands = is_standing(e);
     let other = found.sameday;
-    let sameday = if stands {
-        Slot::Read(e)
-    } else {
-        other
-    };
+    let sameday = if stands { Slot::Read(e) } else { other };
     let has = has_read(day, value, e);
     Found {
         sameday,

@@ -145,18 +145,18 @@ returns-4 c =
     let d = e .before .before in
     let k = d .before .before .before .before .before .before in
     let survey =
-        gathered
-        _
-        _
-        _
-        (k .entry-count .ensures)
-        (d .before .before .power .ensures)
-        (d .before .order-over .ensures)
-        (c .long-at .ensures)
-        (places .places-over .ensures)
-        (recent .recent-from .ensures)
-        (found .before .held-over .ensures)
-        (found .found-over .ensures) in
+    gathered
+    _
+    _
+    _
+    (k .entry-count .ensures)
+    (d .before .before .power .ensures)
+    (d .before .order-over .ensures)
+    (c .long-at .ensures)
+    (places .places-over .ensures)
+    (recent .recent-from .ensures)
+    (found .before .held-over .ensures)
+    (found .found-over .ensures) in
     ap Sound survey ∙ sym (by-parts d (not-false _ (e .if3 .left)))
 
 pub survey-journal-spec : {M : Type 1} → statement M
