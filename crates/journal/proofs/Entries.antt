@@ -30,6 +30,11 @@ unfolding any
 any-kept p true e es = refl
 any-kept p false e es = refl
 
+-- the last of some entries
+pub last-entry : {m k : ℕ} (a : List ℕ) → m ≡ suc k → entriesTo m a ≡ entryAt a (entryStart k) ∷ entriesTo k a
+unfolding entriesTo
+last-entry a e = ap (λ (n : ℕ). entriesTo n a) e
+
 -- how many entries there are
 pub length-entries : (k : ℕ) (a : List ℕ) → length (entriesTo k a) ≡ k
 unfolding entriesTo

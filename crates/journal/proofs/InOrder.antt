@@ -1,17 +1,21 @@
 -- Whether one more entry keeps the order: each clause over the longer list is what the entry adds and the clause over the shorter.
 use mathlib.Core.Path.{_≡_, refl, ap}
-use mathlib.Core.Bool.{Bool, true, false, not, _&&_, _||_, and-assoc, and-comm, and-true, and-false, and-eq-true-iff}
+use mathlib.Core.Bool.{Bool, true, false, not, _&&_, _||_, and-assoc, and-comm, cond, and-true, and-false, and-eq-true-iff}
 use mathlib.Core.List.{List, [], _∷_}
 use Prim.Native.Nat.{ℕ, _<_}
 use native.Mathlib.Omega.{arith}
-use borrow.Author.Tests.{ltb-true, lt-ltb}
+use borrow.Author.Tests.{ltb-true, lt-ltb, eqb-true}
+use lib.Dec.{eqb}
 use Rattle.terms.specs.declared.entry.Entry.{Entry}
-use Rattle.terms.specs.declared.entry.Slot.the-variants.{Empty}
-use Rattle.terms.specs.Entry.{isStanding, isHeld, keepIf, those, slotAt}
+use Rattle.terms.specs.declared.entry.Slot.{Slot}
+use Rattle.terms.specs.declared.entry.Slot.the-variants.{Read, Empty}
+use Rattle.terms.specs.Entry.{kindStanding, isStanding, isHeld, keepIf, those, slotAt}
 use Rattle.terms.specs.Letter.{isOpening, isHoldable}
 use Rattle.journal.specs.Journal.{standing, slotIf, heldOf}
 use Rattle.journal.specs.Sound.{every, any, isRead, daysRise, opensRight, isFinalRead, hasOneFinal, isLater, exists, mayBeHeld, isHeldRight, areInOrder}
 use Rattle.journal.specs.Survey.{isThere, isAfter, mayStand, mayFollow}
+use Rattle.journal.specs.Loops.{standsBy, followsBy, dayOf, orderOf}
+use Rattle.journal.proofs.Entries.{any-kept}
 
 -- ---- conjunctions
 and-left : (x y z : Bool) → x && (y && z) ≡ y && (x && z)
@@ -108,3 +112,63 @@ in-order-more limit e es =
     (not (isHeld e) || mayBeHeld e ss)
     (not (isHeld e) || holdsRight e ss)
     (λ p. ap (λ (x : Bool). not (isHeld e) || x) (held-right e ss (both (daysRise ss) (opensRight ss && hasOneFinal ss) p .0))))
+
+-- ---- the same by numbers, as the loop has it
+pub stands-unheld : (e : Entry) → isStanding e ≡ true → isHeld e ≡ false
+unfolding isStanding isHeld
+stands-unheld e h = rw (eqb-true (e .kind) kindStanding h)
+
+choose : (b h x y : Bool) → (b ≡ true → h ≡ false) → (not b || x) && (not h || y) ≡ cond b x (not h || y)
+choose true h x y q = rw (q refl) (and-true x)
+choose false h x y q = refl
+
+chosen : (r t b h x y : Bool) → (b ≡ true → h ≡ false) → r && (t && ((not b || x) && (not h || y))) ≡ (r && t) && cond b x (not h || y)
+chosen r t b h x y q = rw (choose b h x y q, and-assoc)
+
+by-numbers : (limit : ℕ) (e : Entry) (last held : Slot) (ended : Bool) → mayFollow limit e last held ended ≡ followsBy limit e (isThere last) (dayOf last) (isThere held) ended
+unfolding mayFollow mayStand isAfter followsBy standsBy isThere dayOf
+by-numbers limit e (Read s) held ended =
+    let one = not (isFinalRead e && ended) in
+    chosen
+    (isRead limit e)
+    (not (isThere held))
+    (isStanding e)
+    (isHeld e)
+    ((isLater e s && not (isOpening (e .letter))) && one)
+    (isHoldable (e .letter) && (isLater e s && one))
+    (stands-unheld e)
+by-numbers limit e Empty held ended =
+    let one = not (isFinalRead e && ended) in
+    chosen
+    (isRead limit e)
+    (not (isThere held))
+    (isStanding e)
+    (isHeld e)
+    ((isOpening (e .letter) && eqb (e .flag) 0) && one)
+    (isHoldable (e .letter) && (false && one))
+    (stands-unheld e)
+
+there-kept : (b : Bool) (e : Entry) (ss : List Entry) → isThere (slotAt (keepIf b e ss) 0) ≡ b || isThere (slotAt ss 0)
+unfolding isThere slotAt
+there-kept true e ss = refl
+there-kept false e ss = refl
+
+day-kept : (b : Bool) (e : Entry) (ss : List Entry) → dayOf (slotAt (keepIf b e ss) 0) ≡ cond b (e .day) (dayOf (slotAt ss 0))
+unfolding dayOf slotAt
+day-kept true e ss = refl
+day-kept false e ss = refl
+
+held-there : (b : Bool) (e : Entry) → isThere (slotIf b e Empty) ≡ b
+unfolding isThere
+held-there true e = refl
+held-there false e = refl
+
+pub order-more : (limit : ℕ) (e : Entry) (es : List Entry) → orderOf limit (e ∷ es) ≡ record {
+  sound = followsBy limit e (orderOf limit es .stands) (orderOf limit es .day) (orderOf limit es .held) (orderOf limit es .ended) && orderOf limit es .sound;
+  stands = isStanding e || orderOf limit es .stands;
+  day = cond (isStanding e) (e .day) (orderOf limit es .day);
+  held = isHeld e;
+  ended = (isStanding e && isFinalRead e) || orderOf limit es .ended;
+}
+unfolding orderOf those heldOf
+order-more limit e es = simp (in-order-more, by-numbers, there-kept, day-kept, held-there, any-kept)

@@ -1,3 +1,4 @@
 pub mod Entries
 pub mod InOrder
+pub mod Positions
 pub mod Steps

@@ -1,8 +1,8 @@
--- What one pass over an area gathers for the calls: each field as the journal's entries have it.
+-- What the loops over an area gather for the calls: each field as the journal's entries have it.
 use mathlib.Core.Bool.{Bool, true, false, not, _&&_, _||_, cond}
 use mathlib.Core.List.{List, [], _∷_}
 use Prim.Native.Nat.{ℕ}
-use lib.Dec.{eqb, ltb}
+use lib.Dec.{eqb}
 use lib.ListN.{length}
 use Rattle.terms.specs.declared.entry.Entry.{Entry}
 use Rattle.terms.specs.declared.entry.Slot.{Slot}
@@ -12,12 +12,11 @@ use Rattle.terms.specs.Entry.{isStanding, isHeld, those, recentOf}
 use Rattle.register.specs.Area.{areaBytes}
 use Rattle.journal.specs.declared.survey.Counts.{Counts}
 use Rattle.journal.specs.declared.survey.Found.{Found}
-use Rattle.journal.specs.declared.survey.Pass.{Pass}
 use Rattle.journal.specs.declared.survey.Survey.{Survey}
 use Rattle.journal.specs.declared.survey.Surveyed.{Surveyed}
 use Rattle.journal.specs.declared.survey.Surveyed.the-variants.{Zero, Damaged, Sound}
 use Rattle.journal.specs.Journal.{Journal, journalOf, allZero, standing, withdrawn, kept, slotIf, heldOf}
-use Rattle.journal.specs.Sound.{isSound, any, hasRead, isFinalRead, isRead, isLater, areInOrder}
+use Rattle.journal.specs.Sound.{isSound, any, hasRead, isFinalRead, isRead, isLater}
 
 -- ---- the counts
 unfoldable pub isFlagged : Entry → Bool
@@ -78,18 +77,7 @@ mayFollow limit e last held ended =
     && ((not (isStanding e) || (mayStand e last && not (isFinalRead e && ended)))
     && (not (isHeld e) || (isHoldable (e .letter) && (isAfter e last && not (isFinalRead e && ended))))))
 
--- ---- what is known after a pass over some entries, and of a whole journal
-unfoldable pub passOf : ℕ → ℕ → ℕ → List Entry → Pass
-passOf limit day value es =
-    record {
-      sound = areInOrder limit es;
-      counts = countsOf es;
-      recent = recentOf (standing es);
-      held = heldOf es;
-      ended = any isFinalRead (standing es);
-      found = foundOf day value es;
-    }
-
+-- ---- what is known of a whole journal
 unfoldable pub surveyOf : ℕ → ℕ → Journal → Survey
 surveyOf day value j =
     record {

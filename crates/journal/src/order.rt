@@ -1,13 +1,10 @@
 // Whether an entry may follow those before it.
 ghost use mathlib.Core.Path.{_≡_};
 ghost use Rattle.terms.specs.Entry.{isStanding, isWithdrawn, isHeld};
-ghost use Rattle.terms.specs.Letter.{isFinal};
 ghost use Rattle.journal.specs.Sound.{isBody, isRead, isFinalRead};
-ghost use Rattle.journal.specs.Survey.{isAfter, mayStand, mayFollow};
-use crate::slot::is_there;
+ghost use Rattle.journal.specs.Loops.{standsBy, followsBy};
 use terms::entry::Entry;
 use terms::entry::Kind;
-use terms::entry::Slot;
 use terms::letter::Letter;
 use terms::letter::is_holdable;
 use terms::letter::is_known;
@@ -38,50 +35,63 @@ pub(crate) fn is_final(e: Entry) -> bool
     e.letter == Letter::FINAL
 }
 
-// The ranges of a body's fields; the limit is 10^n.
+// The ranges of a body's fields; the limit is 10^n. Most bodies pass every test, and a branch that is not taken is cheaper than a flag.
 fn is_body(limit: u64, e: Entry) -> bool
     ensures { λ r. ⌜ r ≡ isBody limit e ⌝ }
 {
-    !(e.day == 0)
-        & (((e.value as u64) < limit)
-            & (is_known(e.letter)
-                & ((e.indicator <= Indicator::TRUE)
-                    & ((e.flag <= 1)
-                        & (!is_opening(e.letter) | (e.indicator == Indicator::NOT_SET))))))
+    if e.day == 0 {
+        return false;
+    }
+    let value = e.value as u64;
+    if limit <= value {
+        return false;
+    }
+    if !is_known(e.letter) {
+        return false;
+    }
+    (e.indicator <= Indicator::TRUE)
+        & ((e.flag <= 1) & (!is_opening(e.letter) | (e.indicator == Indicator::NOT_SET)))
 }
 
 fn is_read(limit: u64, e: Entry) -> bool
     ensures { λ r. ⌜ r ≡ isRead limit e ⌝ }
 {
-    (is_standing(e) | (is_withdrawn(e) | is_held(e))) & is_body(limit, e)
-}
-
-// Later than the last standing read, which exists.
-fn is_after(e: Entry, last: Slot) -> bool
-    ensures { λ r. ⌜ r ≡ isAfter e last ⌝ }
-{
-    match last {
-        Slot::Read(s) => s.day < e.day,
-        Slot::Empty => false,
+    if !(is_standing(e) | (is_withdrawn(e) | is_held(e))) {
+        return false;
     }
+    is_body(limit, e)
 }
 
-// The first standing read opens the journal; a later one is later and does not.
-fn may_stand(e: Entry, last: Slot) -> bool
-    ensures { λ r. ⌜ r ≡ mayStand e last ⌝ }
+// The first standing read opens the journal; a later one is later and does not. Whether a read stands, and the day of the last one.
+fn may_stand(e: Entry, stands: bool, last: u16) -> bool
+    ensures { λ r. ⌜ r ≡ standsBy e stands last ⌝ }
 {
-    match last {
-        Slot::Read(s) => (s.day < e.day) & !is_opening(e.letter),
-        Slot::Empty => is_opening(e.letter) & (e.flag == 0),
+    if stands {
+        return (last < e.day) & !is_opening(e.letter);
     }
+    is_opening(e.letter) & (e.flag == 0)
 }
 
-pub(crate) fn may_follow(limit: u64, e: Entry, last: Slot, held: Slot, ended: bool) -> bool
-    ensures { λ r. ⌜ r ≡ mayFollow limit e last held ended ⌝ }
+// Most entries stand, and of one that stands nothing is asked of a held read.
+pub(crate) fn may_follow(
+    limit: u64,
+    e: Entry,
+    stands: bool,
+    last: u16,
+    held: bool,
+    ended: bool,
+) -> bool
+    ensures { λ r. ⌜ r ≡ followsBy limit e stands last held ended ⌝ }
 {
+    if held {
+        return false;
+    }
+    if !is_read(limit, e) {
+        return false;
+    }
     let second_final = is_final(e) & ended;
-    is_read(limit, e)
-        & (!is_there(held)
-            & ((!is_standing(e) | (may_stand(e, last) & !second_final))
-                & (!is_held(e) | (is_holdable(e.letter) & (is_after(e, last) & !second_final)))))
+    if is_standing(e) {
+        return may_stand(e, stands, last) & !second_final;
+    }
+    !is_held(e) | (is_holdable(e.letter) & ((stands & (last < e.day)) & !second_final))
 }

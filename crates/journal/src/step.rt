@@ -1,13 +1,13 @@
-// One entry more in a pass over a journal. Each function says what it keeps of every list of entries, with e the newest.
+// One entry more in a loop over a journal. Each function says what it keeps of every list of entries, with e the newest.
 ghost use mathlib.Core.Path.{_≡_};
 ghost use mathlib.Core.List.{List, _∷_};
 ghost use Prim.Native.Nat.{_<_};
 ghost use lib.ListN.{length};
 ghost use Rattle.terms.specs.declared.entry.Entry.{Entry};
-ghost use Rattle.terms.specs.Entry.{recentOf};
-ghost use Rattle.journal.specs.Journal.{standing, heldOf};
-ghost use Rattle.journal.specs.Sound.{any, hasRead, isFinalRead};
-ghost use Rattle.journal.specs.Survey.{countsOf, foundOf, passOf};
+ghost use Rattle.journal.specs.Journal.{heldOf};
+ghost use Rattle.journal.specs.Sound.{hasRead};
+ghost use Rattle.journal.specs.Survey.{countsOf, foundOf};
+ghost use Rattle.journal.specs.Loops.{orderOf, placesOf};
 use crate::order::is_final;
 use crate::order::is_held;
 use crate::order::is_standing;
@@ -15,9 +15,9 @@ use crate::order::is_withdrawn;
 use crate::order::may_follow;
 use crate::survey::Counts;
 use crate::survey::Found;
-use crate::survey::Pass;
+use crate::survey::Order;
+use crate::survey::Places;
 use terms::entry::Entry;
-use terms::entry::Recent;
 use terms::entry::Slot;
 
 pub(crate) fn has_read(day: u16, value: u32, e: Entry) -> bool
@@ -64,24 +64,29 @@ fn count(counts: Counts, k: u8, e: Entry) -> Counts
     }
 }
 
-// The last three standing reads.
-fn remember(recent: Recent, e: Entry) -> Recent
-    ensures { λ r. ⌜ ((es : List Entry) → recent ≡ recentOf (standing es) → r ≡ recentOf (standing (e ∷ es))) ⌝ }
+// The counts, and the places of the second last and the third last standing entries.
+pub(crate) fn place(places: Places, k: u8, e: Entry) -> Places
+    requires { ⌜ (places .counts .kept < 255) × (places .counts .standing < 255) × (places .counts .flagged < 255) ⌝ }
+    ensures { λ r. ⌜ ((es : List Entry) → length es ≡ k → places ≡ placesOf es → r ≡ placesOf (e ∷ es)) ⌝ }
 {
+    let counts = places.counts;
+    let counted = count(counts, k, e);
     if is_standing(e) {
-        let second = recent.last;
-        let third = recent.second;
-        return Recent {
-            last: Slot::Read(e),
-            second,
-            third,
+        return Places {
+            counts: counted,
+            second: counts.newest,
+            third: places.second,
         };
     }
-    recent
+    Places {
+        counts: counted,
+        second: places.second,
+        third: places.third,
+    }
 }
 
 // The entry, if it is a held read.
-fn held_of(e: Entry) -> Slot
+pub(crate) fn held_of(e: Entry) -> Slot
     ensures { λ r. ⌜ ((es : List Entry) → r ≡ heldOf (e ∷ es)) ⌝ }
 {
     if is_held(e) {
@@ -90,17 +95,16 @@ fn held_of(e: Entry) -> Slot
     Slot::Empty
 }
 
-// What is known of the day and the value that a call names.
-fn find(found: Found, day: u16, value: u32, e: Entry) -> Found
+// What is known of the day and the value that a call names. Few entries are of that day.
+pub(crate) fn find(found: Found, day: u16, value: u32, e: Entry) -> Found
     ensures { λ r. ⌜ ((es : List Entry) → found ≡ foundOf day value es → r ≡ foundOf day value (e ∷ es)) ⌝ }
 {
+    if e.day != day {
+        return found;
+    }
     let stands = is_standing(e);
     let other = found.sameday;
-    let sameday = if stands & (e.day == day) {
-        Slot::Read(e)
-    } else {
-        other
-    };
+    let sameday = if stands { Slot::Read(e) } else { other };
     let has = has_read(day, value, e);
     Found {
         sameday,
@@ -109,23 +113,26 @@ fn find(found: Found, day: u16, value: u32, e: Entry) -> Found
     }
 }
 
-// The whole pass, one entry on.
-pub(crate) fn advance_pass(pass: Pass, limit: u64, day: u16, value: u32, k: u8, e: Entry) -> Pass
-    requires { ⌜ (pass .counts .kept < 255) × (pass .counts .standing < 255) × (pass .counts .flagged < 255) ⌝ }
-    ensures { λ r. ⌜ ((es : List Entry) → length es ≡ k → pass ≡ passOf limit day value es → r ≡ passOf limit day value (e ∷ es)) ⌝ }
+// The order, and what the next entry's depends on.
+pub(crate) fn advance_order(order: Order, limit: u64, e: Entry) -> Order
+    ensures { λ r. ⌜ ((es : List Entry) → order ≡ orderOf limit es → r ≡ orderOf limit (e ∷ es)) ⌝ }
 {
-    let counts = pass.counts;
-    let recent = pass.recent;
-    let last = recent.last;
-    let held = pass.held;
-    let found = pass.found;
-    let follows = may_follow(limit, e, last, held, pass.ended);
-    Pass {
-        sound: follows & pass.sound,
-        counts: count(counts, k, e),
-        recent: remember(recent, e),
-        held: held_of(e),
-        ended: (is_standing(e) & is_final(e)) | pass.ended,
-        found: find(found, day, value, e),
+    let follows = may_follow(limit, e, order.stands, order.day, order.held, order.ended);
+    let sound = follows & order.sound;
+    if is_standing(e) {
+        return Order {
+            sound,
+            stands: true,
+            day: e.day,
+            held: false,
+            ended: is_final(e) | order.ended,
+        };
+    }
+    Order {
+        sound,
+        stands: order.stands,
+        day: order.day,
+        held: is_held(e),
+        ended: order.ended,
     }
 }

@@ -8,10 +8,10 @@ pub fn is_zero_from(bytes: &[u8], from: usize) -> bool
     ensures { λ r. ⌜ r ≡ allZero (drop from (now (bytes .entry))) ⌝ }
 {
     let mut zero = true;
-    let mut i = bytes.len();
-    while from < i {
-        i -= 1;
-        zero = (bytes[i] == 0) & zero;
+    let mut i = from;
+    while i < bytes.len() {
+        zero = zero & (bytes[i] == 0);
+        i += 1;
     }
     zero
 }

@@ -1,4 +1,6 @@
--- The code is the definition, test for test.
+-- The kind is one of three, and the body is as it should be.
+use mathlib.Core.Bool.{_||_}
+use borrow.Author.Tests.{not-true, not-false}
 use Rattle.journal.specs.Sound.{isRead}
 use borrow.Author.Needs.{needs}
 use Rattle.journal.proofs.order.is_read.Statement.{statement}
@@ -13,14 +15,39 @@ is-withdrawn-requires c κs = search needs
 is-held-requires : tie.Need-is-held-requires
 is-held-requires c κs = search needs
 
+returns : tie.Need-returns
+unfolding isRead
+returns c =
+    let k = c .before in
+    rw (
+      ← k .before .before .is-standing .ensures,
+      ← k .before .is-withdrawn .ensures,
+      ← k .is-held .ensures,
+      not-true (k .before .before .is-standing .result || (k .before .is-withdrawn .result || k .is-held .result)) (c .if1 .taken),
+    )
+
 is-body-requires : tie.Need-is-body-requires
 is-body-requires c κs = search needs
 
-returns : tie.Need-returns
+returns-2 : tie.Need-returns-2
 unfolding isRead
-returns c = rw (c .before .before .before .is-standing .ensures, c .before .before .is-withdrawn .ensures, c .before .is-held .ensures, c .is-body .ensures)
+returns-2 c =
+    let k = c .before .before in
+    rw (
+      ← k .before .before .is-standing .ensures,
+      ← k .before .is-withdrawn .ensures,
+      ← k .is-held .ensures,
+      not-false (k .before .before .is-standing .result || (k .before .is-withdrawn .result || k .is-held .result)) (c .before .if1 .left),
+      c .is-body .ensures,
+    )
 
 pub is-read-spec : {M : Type 1} → statement M
 is-read-spec =
     tie.close
-    (tie.spec is-standing-requires is-withdrawn-requires is-held-requires is-body-requires returns)
+    (tie.spec
+    is-standing-requires
+    is-withdrawn-requires
+    is-held-requires
+    returns
+    is-body-requires
+    returns-2)

@@ -10,13 +10,19 @@ use lib.ListN.{length, drop}
 use Rattle.arithmetic.specs.Powers.{tenTo}
 use Rattle.register.specs.Area.{areaBytes}
 use Rattle.register.specs.Entries.{dialsOf, capacityOf, entryStart}
-use Rattle.journal.specs.declared.survey.Pass.{Pass}
+use Rattle.terms.specs.declared.entry.Slot.{Slot}
+use Rattle.terms.specs.declared.entry.Recent.{Recent}
+use Rattle.terms.specs.Entry.{recentOf}
+use Rattle.journal.specs.declared.survey.Found.{Found}
+use Rattle.journal.specs.declared.survey.Order.{Order}
+use Rattle.journal.specs.declared.survey.Places.{Places}
 use Rattle.journal.specs.declared.survey.Survey.{Survey}
 use Rattle.journal.specs.declared.survey.Surveyed.{Surveyed}
 use Rattle.journal.specs.declared.survey.Surveyed.the-variants.{Damaged, Sound}
-use Rattle.journal.specs.Journal.{maxEntries, allZero, entriesTo, entryCount, journalOf, standing, withdrawn}
+use Rattle.journal.specs.Journal.{maxEntries, allZero, entriesTo, entryCount, journalOf, standing, withdrawn, heldOf}
 use Rattle.journal.specs.Sound.{isMeter, areApart, areSound, isSound}
-use Rattle.journal.specs.Survey.{passOf, surveyOf, surveyed}
+use Rattle.journal.specs.Survey.{foundOf, surveyOf, surveyed}
+use Rattle.journal.specs.Loops.{orderOf, placesOf}
 use Rattle.journal.proofs.Entries.{length-entries, count-at-most}
 use Rattle.journal.proofs.survey.survey_journal.Statement.{statement}
 use Rattle.journal.proofs.survey.survey_journal.Tie as tie
@@ -30,15 +36,15 @@ module _ (day value : ℕ) (a : List ℕ) where
   unfolding surveyed isSound
   judged known first ends parts = rw (known .0, known .1, first, ends, parts)
 
-  -- what the calls gather
-  module _ {m limit : ℕ} {p : Pass} (count : m ≡ entryCount a) (power : limit ≡ tenTo (dialsOf a)) (pass : p ≡ passOf limit day value (entriesTo m a)) where
-    parts-are : {apart : Bool} → apart ≡ areApart (standing (entriesTo m a)) (withdrawn (entriesTo m a)) → areSound (tenTo (journalOf a .dials)) (journalOf a .entries) ≡ p .sound && apart
-    unfolding passOf areSound journalOf
-    parts-are apart = rw (pass, apart, power, count)
+  -- what the loops gather
+  module _ {m limit : ℕ} {o : Order} (count : m ≡ entryCount a) (power : limit ≡ tenTo (dialsOf a)) (order : o ≡ orderOf limit (entriesTo m a)) where
+    parts-are : {apart : Bool} → apart ≡ areApart (standing (entriesTo m a)) (withdrawn (entriesTo m a)) → areSound (tenTo (journalOf a .dials)) (journalOf a .entries) ≡ o .sound && apart
+    unfolding orderOf areSound journalOf
+    parts-are apart = rw (order, apart, power, count)
 
-    gathered : {capacity : ℕ} → capacity ≡ capacityOf a → _≡_ {A = Survey} (record { dials = dialsOf a; capacity = capacity; entries = m; counts = p .counts; recent = p .recent; held = p .held; ended = p .ended; found = p .found }) (surveyOf day value (journalOf a))
-    unfolding passOf surveyOf journalOf
-    gathered capacity = rw (pass, capacity, count, length-entries)
+    gathered : {capacity : ℕ} {p : Places} {recent : Recent} {held : Slot} {found : Found} → capacity ≡ capacityOf a → p ≡ placesOf (entriesTo m a) → recent ≡ recentOf (standing (entriesTo m a)) → held ≡ heldOf (entriesTo m a) → found ≡ foundOf day value (entriesTo m a) → _≡_ {A = Survey} (record { dials = dialsOf a; capacity = capacity; entries = m; counts = p .counts; recent = recent; held = held; ended = o .ended; found = found }) (surveyOf day value (journalOf a))
+    unfolding orderOf placesOf surveyOf journalOf
+    gathered capacity places recent held found = rw (order, capacity, places, recent, held, found, count, length-entries)
 
 few : (c : tie.After-entry-count) → (length (c .before .before .before .before .args .area .now) ≡ areaBytes) × (c .entry-count .result ≤ maxEntries)
 few c = (c .before .before .before .before .pre .0, rw (c .entry-count .ensures) (count-at-most _))
@@ -57,7 +63,7 @@ module _ (c : tie.After-is-apart) where
   abbrev start : tie.Start
   start = c .before .before .before .before .before .before .before .before .before .before
 
-  by-parts : {sound : Bool} → c .before .pass-over .result .sound && c .is-apart .result ≡ sound → surveyed (start .args .day) (start .args .value) (start .args .area .now) ≡ verdict (start .args .day) (start .args .value) (start .args .area .now) sound
+  by-parts : {sound : Bool} → c .before .order-over .result .sound && c .is-apart .result ≡ sound → surveyed (start .args .day) (start .args .value) (start .args .area .now) ≡ verdict (start .args .day) (start .args .value) (start .args .area .now) sound
   by-parts e =
       let k = c .before .before .before .before in
       judged
@@ -67,7 +73,7 @@ module _ (c : tie.After-is-apart) where
       (start .pre)
       (first-is (k .before .before .before))
       (ends-are (k .before) ∙ not-false _ (k .if2 .left))
-      (parts-are _ _ _ (k .before .before .entry-count .ensures) (c .before .before .power .ensures) (c .before .pass-over .ensures) (c .is-apart .ensures) ∙ e)
+      (parts-are (start .args .day) (start .args .value) _ (k .before .before .entry-count .ensures) (c .before .before .power .ensures) (c .before .order-over .ensures) (c .is-apart .ensures) ∙ e)
 
 is-meter-requires : tie.Need-is-meter-requires
 is-meter-requires c κs = search needs
@@ -104,8 +110,8 @@ shared-slice-read-dials c = search needs
 power-requires : tie.Need-power-requires
 power-requires c κs = search needs
 
-pass-over-requires : tie.Need-pass-over-requires
-pass-over-requires c κs = few (c .before .before .before .before)
+order-over-requires : tie.Need-order-over-requires
+order-over-requires c κs = few (c .before .before .before .before)
 
 is-apart-requires : tie.Need-is-apart-requires
 is-apart-requires c κs = few (c .before .before .before .before .before)
@@ -113,15 +119,44 @@ is-apart-requires c κs = few (c .before .before .before .before .before)
 returns-3 : tie.Need-returns-3
 returns-3 c = sym (by-parts (c .before .before) (not-true _ (c .if3 .taken)))
 
+places-over-requires : tie.Need-places-over-requires
+places-over-requires c κs = few (c .before .before .before .before .before .before .before .before)
+
+recent-from-requires : tie.Need-recent-from-requires
+recent-from-requires c κs =
+    let known = few (c .before .before .before .before .before .before .before .before .before .before) in
+    (known .0, known .1, c .before .places-over .ensures)
+
+held-over-requires : tie.Need-held-over-requires
+held-over-requires c κs = few (c .before .before .before .before .before .before .before .before .before .before .before)
+
+found-over-requires : tie.Need-found-over-requires
+found-over-requires c κs = few (c .before .before .before .before .before .before .before .before .before .before .before .before)
+
 long-at-requires : tie.Need-long-at-requires
-long-at-requires c κs = omega (arith, few (c .before .before .before .before .before .before .before .before .before .before .before) .0)
+long-at-requires c κs = omega (arith, few (c .before .before .before .before .before .before .before .before .before .before .before .before .before) .0)
 
 returns-4 : tie.Need-returns-4
 returns-4 c =
-    let e = c .before .before .before .before in
+    let found = c .before in
+    let recent = found .before .before in
+    let places = recent .before .before in
+    let e = places .before in
     let d = e .before .before in
     let k = d .before .before .before .before .before .before in
-    let survey = gathered _ _ _ (k .entry-count .ensures) (d .before .before .power .ensures) (d .before .pass-over .ensures) (c .long-at .ensures) in
+    let survey =
+    gathered
+    _
+    _
+    _
+    (k .entry-count .ensures)
+    (d .before .before .power .ensures)
+    (d .before .order-over .ensures)
+    (c .long-at .ensures)
+    (places .places-over .ensures)
+    (recent .recent-from .ensures)
+    (found .before .held-over .ensures)
+    (found .found-over .ensures) in
     ap Sound survey ∙ sym (by-parts d (not-false _ (e .if3 .left)))
 
 pub survey-journal-spec : {M : Type 1} → statement M
@@ -138,8 +173,12 @@ survey-journal-spec =
     returns-2
     shared-slice-read-dials
     power-requires
-    pass-over-requires
+    order-over-requires
     is-apart-requires
     returns-3
+    places-over-requires
+    recent-from-requires
+    held-over-requires
+    found-over-requires
     long-at-requires
     returns-4)
