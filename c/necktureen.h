@@ -2,8 +2,9 @@
  *
  * A register is NECKTUREEN_REGISTER_BYTES bytes that the caller lends, all zero at first; place p's meter has the
  * NECKTUREEN_AREA_BYTES bytes from NECKTUREEN_AREA_BYTES * p on. Every function takes the register as a pointer and its
- * length, asks nothing else of its caller, and answers one of the numbers below. A number other than 0 changes no byte
- * and puts zeros in the other fields; 19 and 20 store the held read. No pointer may be null, and none is kept. */
+ * length, whatever that is and whatever the bytes are, and all but the last answer one of the numbers below. A number
+ * other than 0 changes no byte of the register and puts zeros in the other fields; 19 and 20 store the held read. The
+ * pointers to the other fields are to be valid, apart from each other and outside the register. None is kept. */
 #ifndef NECKTUREEN_H
 #define NECKTUREEN_H
 

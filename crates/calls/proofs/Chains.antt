@@ -17,7 +17,9 @@ use Rattle.register.proofs.Areas.{area-length}
 use Rattle.journal.specs.Journal.{allZero, standing, withdrawn}
 use Rattle.calls.specs.declared.call.Call.{Call}
 use Rattle.calls.specs.Calls.{act, placeOf, step}
-use Rattle.calls.proofs.Bools.{both, by-test}
+use Rattle.calls.proofs.Bools.{both, left-or, right-or, by-test}
+use Rattle.journal.specs.Sound.{isSound}
+use Rattle.calls.specs.Kept.{isGood}
 use Rattle.calls.specs.Play.{Exchange, exchange, exchanges, registerAfter, zeroRegister, numberOf, names}
 use Rattle.calls.specs.Ledger.{Named, Ledger, emptyLedger, entered, isAccepted, ledgerAfter, ledgerOf, lastLessFirst, areNoneOf}
 use Rattle.calls.specs.DemandThree.{namesOf, RunHolds, callsB, DemandThree}
@@ -116,15 +118,18 @@ module _ (effects : Effects) (meter : ℕ) (xs : List Exchange) (register : List
   l = ledgerOf meter xs
 
   fresh-holds : Fresh area l → RunHolds meter xs register
-  unfolding areNoneOf lastLessFirst namesOf those
+  unfolding areNoneOf lastLessFirst namesOf those isGood
   fresh-holds f =
       record {
         sum = f .advances-are ∙ sym (ap₂ _+ℤ_ (ap lastLessFirst (f .standing-is)) (ap (λ (z : ℤ). pos (10 ^ l .dials) *ℤ z) (f .flags-are) ∙ *ℤ-zero (pos (10 ^ l .dials))));
         apart = ap (λ (rs : List Named). areNoneOf rs (l .withdrawn)) (f .standing-is);
         stand = ap (λ (es : List Entry). namesOf (standing es)) (effects .empty area (f .zero)) ∙ sym (f .standing-is);
+        unenrolled = λ none. (f .standing-is, f .advances-are, f .flags-are);
+        good = left-or (isSound area) (f .zero);
       }
 
   live-holds : Live area l → RunHolds meter xs register
+  unfolding isGood
   live-holds g =
       let few : l .dials < 10 = rw (g .dials-are) at (effects .few-dials area (g .sound)) in
       record {
@@ -136,6 +141,8 @@ module _ (effects : Effects) (meter : ℕ) (xs : List Exchange) (register : List
             ap (λ (rs : List Named). areNoneOf rs (l .withdrawn)) (sym (g .standing-is))
             ∙ none-stand (l .withdrawn) (standingIn area) (withdrawnIn area) (effects .none-clash area (g .sound)) (g .withdrawn-are);
         stand = g .standing-is;
+        unenrolled = λ none. absurd (effects .some-dials area (g .sound) (g .dials-are ∙ none));
+        good = right-or (allZero area) (g .sound);
       }
 
   holds : Good area l → RunHolds meter xs register

@@ -82,6 +82,13 @@ module _ (area : List ℕ) (sound : isSound area ≡ true) where
       let most : dialsOf area ≤ mostDials = leb-true (dialsOf area) mostDials upper in
       omega arith
 
+  dials-some : journalOf area .dials ≡ 0 → ⊥
+  unfolding isPlate journalOf
+  dials-some none =
+      let lower : leb leastDials (dialsOf area) ≡ true = both (leb leastDials (dialsOf area)) _ (plated .1) .0 in
+      let least : leastDials ≤ dialsOf area = leb-true leastDials (dialsOf area) lower in
+      omega arith
+
   module _ (e : Entry) (ss : List Entry) (stands : standingIn area ≡ e ∷ ss) where
     newest-read : isRead limit e ≡ true
     unfolding every
@@ -264,6 +271,7 @@ effects =
       empty = empty-entries;
       none-clash = λ area sound. clauses area sound .apart;
       few-dials = dials-few;
+      some-dials = dials-some;
       enrol = known-enrol;
       submit = known-submit;
       hold = known-hold;

@@ -46,7 +46,7 @@ enrolIn dials capacity area =
     (acted (Answered (answer accepted 0 (pos 0))) (putMeter area dials capacity))
     (refused (firstBroken (enrolChecks dials capacity area)) area)
 
--- ---- "Submit: accepted, the read is written as kind 2 after the standing and withdrawn entries, over a held one. With 19 or 20 it is written
+-- ---- "Submit (..): accepted, the read is written as kind 2 after the standing and withdrawn entries, over a held one. With 19 or 20 it is written
 -- there as kind 4 with its flag." It answers "its flag and a".
 unfoldable pub entryFor : ℕ → Submission → ℕ → Entry
 entryFor kind s flag =
@@ -82,6 +82,8 @@ submitIn s area =
     (refused (firstBroken (submitChecks s area)) area))
 
 -- ---- "Withdraw (place, day, value): the last standing entry becomes kind 3 in its place and a held entry is zeroed; it answers that read's
+-- flag and its advance negated."
+
 -- the area with the entry after `newest` others withdrawn, and the one after `kept` others zeroed if a read is held
 unfoldable pub withdrawnBytes : ℕ → ℕ → Bool → List ℕ → List ℕ
 withdrawnBytes newest kept held area =

@@ -8,6 +8,7 @@ use Rattle.terms.specs.declared.entry.Entry.{Entry}
 use Rattle.register.specs.Area.{areas, areaOf}
 use Rattle.journal.specs.Journal.{journalOf, standing}
 use Rattle.calls.specs.declared.call.Call.{Call}
+use Rattle.calls.specs.Kept.{isGood}
 use Rattle.calls.specs.Play.{Exchange, exchanges, registerAfter, zeroRegister, picked, callsOf}
 use Rattle.calls.specs.Ledger.{Named, named, ledgerOf, lastLessFirst, areNoneOf}
 
@@ -25,6 +26,10 @@ pub record RunHolds (meter : ℕ) (xs : List Exchange) (register : List ℕ) : T
   pub apart : areNoneOf (ledgerOf meter xs .standing) (ledgerOf meter xs .withdrawn) ≡ true
   -- "after each run the meter's kind 2 entries hold just these days and values, in this order"
   pub stand : namesOf (standing (journalOf (areaOf meter register) .entries)) ≡ ledgerOf meter xs .standing
+  -- "n is from the meter's accepted enrolment; without one nothing is accepted there and both sides of the sum are 0."
+  pub unenrolled : ledgerOf meter xs .dials ≡ 0 → (ledgerOf meter xs .standing ≡ []) × (ledgerOf meter xs .advances ≡ pos 0) × (ledgerOf meter xs .flags ≡ pos 0)
+  -- the area that holds them is all zero or sound
+  pub good : isGood (areaOf meter register) ≡ true
 
 -- "Run A plays the list on an all-zero register"
 abbrev pub runA : List Call → List Exchange

@@ -1,4 +1,4 @@
--- 01, The two runs of demand 3: what is worked out from a meter's calls and the answers to them, and not from the register.
+-- 00, demand 3, and 01, The two runs of demand 3: what is worked out from a meter's calls and the answers to them, and not from the register.
 use mathlib.Core.Bool.{Bool, true, false, not, _&&_, _||_, cond}
 use mathlib.Core.List.{List, [], _∷_}
 use Prim.Native.Nat.{ℕ}

@@ -1,4 +1,4 @@
--- 01, The two runs of demand 3: a list of calls played on a register, "each call on what the last one left".
+-- 00, demand 3, and 01, The two runs of demand 3: a list of calls played on a register, "each call on what the last one left".
 use mathlib.Core.Bool.{Bool, true, false, _&&_, _||_}
 use mathlib.Core.List.{List, [], _∷_}
 use Prim.Native.Nat.{ℕ}

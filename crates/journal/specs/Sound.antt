@@ -21,7 +21,7 @@ unfoldable pub any : (Entry → Bool) → List Entry → Bool
 any test [] = false
 any test (e ∷ es) = test e || any test es
 
--- "Kind 1, meter, first and only first: dials n (4 to 9), capacity (at least 1)"
+-- "Kind 1, meter, first and only first: dials n (1 byte, 4 to 9), capacity in m³ a year (4 bytes, at least 1)."
 abbrev pub leastDials : ℕ
 leastDials = 4
 
@@ -34,8 +34,9 @@ isPlate dials capacity = leb leastDials dials && (leb dials mostDials && not (eq
 unfoldable pub isMeter : List ℕ → Bool
 isMeter area = eqb (byteAt area 0) kindMeter && isPlate (dialsOf area) (capacityOf area)
 
--- "Kinds 2 standing, 3 withdrawn, 4 held, one body: day (1 to 65,535), value (below 10^n), type (ASCII letter), indicator (0, 1 or 2),
--- flag (1 if rollover, else 0)". "I and O have indicator 0 wherever they appear." The limit is 10^n.
+-- "Kinds 2 standing, 3 withdrawn, 4 held, one body: day (2 bytes, 1 to 65,535; ..), value (4 bytes, below 10^n), type (ASCII letter),
+-- indicator (1 byte: 0 not set, 1 false, 2 true), flag (1 byte, 1 if rollover, else 0)." "I and O have indicator 0 wherever they appear." The
+-- limit is 10^n.
 unfoldable pub isBody : ℕ → Entry → Bool
 isBody limit e =
     not (eqb (e .day) 0)

@@ -1,4 +1,4 @@
-// The journal: what an area's bytes mean, judged as a stranger would.
+// The journal: what an area's bytes mean, for any bytes whatever.
 mod apart;
 mod order;
 pub mod plate;

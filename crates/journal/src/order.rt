@@ -35,7 +35,7 @@ pub(crate) fn is_final(e: Entry) -> bool
     e.letter == Letter::FINAL
 }
 
-// The ranges of a body's fields; the limit is 10^n. Most bodies pass every test, and a branch that is not taken is cheaper than a flag.
+// The ranges of a body's fields; the limit is 10^n. Most bodies pass every test, so that the early returns cost little.
 fn is_body(limit: u64, e: Entry) -> bool
     ensures { λ r. ⌜ r ≡ isBody limit e ⌝ }
 {
@@ -72,7 +72,7 @@ fn may_stand(e: Entry, stands: bool, last: u16) -> bool
     is_opening(e.letter) & (e.flag == 0)
 }
 
-// Most entries stand, and of one that stands nothing is asked of a held read.
+// Most entries stand, and the clause about held reads does not concern them.
 pub(crate) fn may_follow(
     limit: u64,
     e: Entry,

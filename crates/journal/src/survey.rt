@@ -47,7 +47,7 @@ pub struct Found {
     pub withdrawn: bool,
 }
 
-// The loops carry small numbers, which stay in registers, and the few entries that are wanted whole are read again after them.
+// The loops carry little, which keeps them fast, and the few entries that are wanted whole are read again after them.
 
 // Of some of the entries: their order, and what the next entry's depends on.
 pub struct Order {

@@ -19,7 +19,7 @@ capacityOf area = longAt area 2
 unfoldable pub putMeter : List ℕ → ℕ → ℕ → List ℕ
 putMeter area dials capacity = putLong (set (set area 0 kindMeter) 1 dials) 2 capacity
 
--- "Kinds 2 standing, 3 withdrawn, 4 held, one body: day (2 bytes), value (4 bytes), type, indicator (1 byte), flag (1 byte)"
+-- "Kinds 2 standing, 3 withdrawn, 4 held, one body": day 2 bytes, value 4, type 1, indicator 1, flag 1
 abbrev pub entryBytes : ℕ
 entryBytes = 10
 
