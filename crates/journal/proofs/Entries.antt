@@ -1,4 +1,4 @@
--- What the loops over an area's entries share: one entry more, and how many there are.
+-- What the loops over a body's entries share: one entry more, and how many there are.
 use mathlib.Core.Path.{_≡_, refl, ap}
 use mathlib.Core.Bool.{Bool, true, false, _&&_, _||_, cond}
 use mathlib.Core.List.{List, [], _∷_}
@@ -11,7 +11,8 @@ use Rattle.terms.specs.declared.entry.Entry.{Entry}
 use Rattle.terms.specs.Entry.{keepIf, those}
 use Rattle.register.specs.Bytes.{byteAt}
 use Rattle.register.specs.Entries.{entryStart, entryAt}
-use Rattle.journal.specs.Journal.{maxEntries, entriesTo, countFrom, entryCount}
+use Rattle.register.specs.Head.{headOf, mostEntries, bodyOf}
+use Rattle.journal.specs.Journal.{entriesTo, countFrom, entryCount}
 use Rattle.journal.specs.Sound.{any}
 
 -- one entry more
@@ -62,6 +63,9 @@ count-from-at-most (suc left) k a =
     let goes-on : countFrom left (suc k) a ≤ k + suc left = omega (arith, count-from-at-most left (suc k) a) in
     number-at-most (eqb (byteAt a (entryStart k)) 0) stops goes-on
 
-pub count-at-most : (a : List ℕ) → entryCount a ≤ maxEntries
+pub count-from-most : (most : ℕ) (b : List ℕ) → countFrom most 0 b ≤ most
+count-from-most most b = omega (arith, count-from-at-most most 0 b)
+
+pub count-at-most : (a : List ℕ) → entryCount a ≤ mostEntries (headOf a)
 unfolding entryCount
-count-at-most a = count-from-at-most maxEntries 0 a
+count-at-most a = count-from-most (mostEntries (headOf a)) (bodyOf a)

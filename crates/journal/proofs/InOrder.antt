@@ -7,14 +7,15 @@ use native.Mathlib.Omega.{arith}
 use borrow.Author.Tests.{ltb-true, lt-ltb, eqb-true}
 use lib.Dec.{eqb}
 use Rattle.terms.specs.declared.entry.Entry.{Entry}
+use Rattle.register.specs.declared.head.Head.{Head}
 use Rattle.terms.specs.declared.entry.Slot.{Slot}
 use Rattle.terms.specs.declared.entry.Slot.the-variants.{Read, Empty}
 use Rattle.terms.specs.Entry.{kindStanding, isStanding, isHeld, keepIf, those, slotAt}
 use Rattle.terms.specs.Letter.{isOpening, isHoldable}
-use Rattle.journal.specs.Journal.{standing, slotIf, heldOf}
-use Rattle.journal.specs.Sound.{every, any, isRead, daysRise, opensRight, isFinalRead, hasOneFinal, isLater, exists, mayBeHeld, isHeldRight, areInOrder}
-use Rattle.journal.specs.Survey.{isThere, isAfter, mayStand, mayFollow}
-use Rattle.journal.specs.Loops.{standsBy, followsBy, dayOf, orderOf}
+use Rattle.journal.specs.Journal.{standing, slotIf, heldOf, isThere}
+use Rattle.journal.specs.Sound.{every, any, isRead, daysRise, opensRight, isFinalRead, hasOneFinal, isLater, opens, exists, mayBeHeld, isHeldRight, areInOrder}
+use Rattle.journal.specs.Inner.Follow.{isAfter, mayStand, mayFollow}
+use Rattle.journal.specs.Inner.Loops.{standsBy, followsBy, dayOf, orderOf}
 use Rattle.journal.proofs.Entries.{any-kept}
 
 -- ---- conjunctions
@@ -34,26 +35,26 @@ both x y = and-eq-true-iff x y .0
 abbrev noSecondFinal : Entry → List Entry → Bool
 noSecondFinal e ss = not (isFinalRead e && any isFinalRead ss)
 
-abbrev standsRight : Entry → List Entry → Bool
-standsRight e ss = mayStand e (slotAt ss 0) && noSecondFinal e ss
+abbrev standsRight : Head → Entry → List Entry → Bool
+standsRight head e ss = mayStand head e (slotAt ss 0) && noSecondFinal e ss
 
 abbrev holdsRight : Entry → List Entry → Bool
 holdsRight e ss = isHoldable (e .letter) && (isAfter e (slotAt ss 0) && noSecondFinal e ss)
 
 -- ---- the clauses over the standing reads
-abbrev rightly : List Entry → Bool
-rightly ss = daysRise ss && (opensRight ss && hasOneFinal ss)
+abbrev rightly : Head → List Entry → Bool
+rightly head ss = daysRise ss && (opensRight head ss && hasOneFinal ss)
 
 deal : (l d o p f g : Bool) → (l && d) && ((o && p) && (f && g)) ≡ ((l && o) && f) && (d && (p && g))
 deal l d o p f g = simp (and-assoc, and-left)
 
-stand-more : (b : Bool) (e : Entry) (ss : List Entry) → rightly (keepIf b e ss) ≡ (not b || standsRight e ss) && rightly ss
+stand-more : (head : Head) (b : Bool) (e : Entry) (ss : List Entry) → rightly head (keepIf b e ss) ≡ (not b || standsRight head e ss) && rightly head ss
 unfolding daysRise opensRight hasOneFinal mayStand slotAt any
-stand-more false e ss = refl
-stand-more true e [] = simp (and-assoc, and-true)
-stand-more true e (s ∷ ss) =
+stand-more head false e ss = refl
+stand-more head true e [] = simp (and-assoc, and-true)
+stand-more head true e (s ∷ ss) =
     let r = s ∷ ss in
-    deal (isLater e s) (daysRise r) (not (isOpening (e .letter))) (opensRight r) (noSecondFinal e r) (hasOneFinal r)
+    deal (isLater e s) (daysRise r) (not (isOpening (e .letter))) (opensRight head r) (noSecondFinal e r) (hasOneFinal r)
 
 -- ---- the held read: later than the newest of a rising list is later than every one
 module _ (e : Entry) where
@@ -89,29 +90,29 @@ none-held [] = refl
 none-held (e ∷ es) = no-held e (isHeld e) (any isHeld es) (mayBeHeld e (standing es))
 
 -- ---- all the clauses
-in-order : (limit : ℕ) (es : List Entry) → areInOrder limit es ≡ every (isRead limit) es && (rightly (standing es) && isHeldRight es)
+in-order : (head : Head) (es : List Entry) → areInOrder head es ≡ every (isRead head) es && (rightly head (standing es) && isHeldRight es)
 unfolding areInOrder
-in-order limit es = simp and-assoc
+in-order head es = simp and-assoc
 
 combine : (r a s p t h w v : Bool) → (p ≡ true → w ≡ v) → (r && a) && ((s && p) && ((t && h) && w)) ≡ (r && (t && (s && v))) && (a && (p && h))
 combine r a s true t h w v q = rw (q refl) (simp (and-assoc, and-true, and-comm, and-left))
 combine r a s false t h w v q = simp (and-assoc, and-false)
 
-pub in-order-more : (limit : ℕ) (e : Entry) (es : List Entry) → areInOrder limit (e ∷ es) ≡ mayFollow limit e (slotAt (standing es) 0) (heldOf es) (any isFinalRead (standing es)) && areInOrder limit es
+pub in-order-more : (head : Head) (e : Entry) (es : List Entry) → areInOrder head (e ∷ es) ≡ mayFollow head e (slotAt (standing es) 0) (heldOf es) (any isFinalRead (standing es)) && areInOrder head es
 unfolding mayFollow every those isHeldRight
-in-order-more limit e es =
+in-order-more head e es =
     let ss = standing es in
-    rw (in-order limit (e ∷ es), in-order limit es, stand-more (isStanding e) e ss, none-held es)
+    rw (in-order head (e ∷ es), in-order head es, stand-more head (isStanding e) e ss, none-held es)
     (combine
-    (isRead limit e)
-    (every (isRead limit) es)
-    (not (isStanding e) || standsRight e ss)
-    (rightly ss)
+    (isRead head e)
+    (every (isRead head) es)
+    (not (isStanding e) || standsRight head e ss)
+    (rightly head ss)
     (not (isThere (heldOf es)))
     (isHeldRight es)
     (not (isHeld e) || mayBeHeld e ss)
     (not (isHeld e) || holdsRight e ss)
-    (λ p. ap (λ (x : Bool). not (isHeld e) || x) (held-right e ss (both (daysRise ss) (opensRight ss && hasOneFinal ss) p .0))))
+    (λ p. ap (λ (x : Bool). not (isHeld e) || x) (held-right e ss (both (daysRise ss) (opensRight head ss && hasOneFinal ss) p .0))))
 
 -- ---- the same by numbers, as the loop has it
 pub stands-unheld : (e : Entry) → isStanding e ≡ true → isHeld e ≡ false
@@ -125,26 +126,26 @@ choose false h x y q = refl
 chosen : (r t b h x y : Bool) → (b ≡ true → h ≡ false) → r && (t && ((not b || x) && (not h || y))) ≡ (r && t) && cond b x (not h || y)
 chosen r t b h x y q = rw (choose b h x y q, and-assoc)
 
-by-numbers : (limit : ℕ) (e : Entry) (last held : Slot) (ended : Bool) → mayFollow limit e last held ended ≡ followsBy limit e (isThere last) (dayOf last) (isThere held) ended
+by-numbers : (head : Head) (e : Entry) (last held : Slot) (ended : Bool) → mayFollow head e last held ended ≡ followsBy head e (isThere last) (dayOf last) (isThere held) ended
 unfolding mayFollow mayStand isAfter followsBy standsBy isThere dayOf
-by-numbers limit e (Read s) held ended =
+by-numbers head e (Read s) held ended =
     let one = not (isFinalRead e && ended) in
     chosen
-    (isRead limit e)
+    (isRead head e)
     (not (isThere held))
     (isStanding e)
     (isHeld e)
     ((isLater e s && not (isOpening (e .letter))) && one)
     (isHoldable (e .letter) && (isLater e s && one))
     (stands-unheld e)
-by-numbers limit e Empty held ended =
+by-numbers head e Empty held ended =
     let one = not (isFinalRead e && ended) in
     chosen
-    (isRead limit e)
+    (isRead head e)
     (not (isThere held))
     (isStanding e)
     (isHeld e)
-    ((isOpening (e .letter) && eqb (e .flag) 0) && one)
+    (opens head e && one)
     (isHoldable (e .letter) && (false && one))
     (stands-unheld e)
 
@@ -163,12 +164,12 @@ unfolding isThere
 held-there true e = refl
 held-there false e = refl
 
-pub order-more : (limit : ℕ) (e : Entry) (es : List Entry) → orderOf limit (e ∷ es) ≡ record {
-  sound = followsBy limit e (orderOf limit es .stands) (orderOf limit es .day) (orderOf limit es .held) (orderOf limit es .ended) && orderOf limit es .sound;
-  stands = isStanding e || orderOf limit es .stands;
-  day = cond (isStanding e) (e .day) (orderOf limit es .day);
+pub order-more : (head : Head) (e : Entry) (es : List Entry) → orderOf head (e ∷ es) ≡ record {
+  sound = followsBy head e (orderOf head es .stands) (orderOf head es .day) (orderOf head es .held) (orderOf head es .ended) && orderOf head es .sound;
+  stands = isStanding e || orderOf head es .stands;
+  day = cond (isStanding e) (e .day) (orderOf head es .day);
   held = isHeld e;
-  ended = (isStanding e && isFinalRead e) || orderOf limit es .ended;
+  ended = (isStanding e && isFinalRead e) || orderOf head es .ended;
 }
 unfolding orderOf those heldOf
-order-more limit e es = simp (in-order-more, by-numbers, there-kept, day-kept, held-there, any-kept)
+order-more head e es = simp (in-order-more, by-numbers, there-kept, day-kept, held-there, any-kept)

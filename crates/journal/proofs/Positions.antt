@@ -4,7 +4,7 @@ use mathlib.Core.Bool.{Bool, true, false}
 use mathlib.Core.List.{List, [], _∷_, map}
 use Prim.Native.Nat.{ℕ, zero, suc, _≤_, _<_}
 use native.Mathlib.Omega.{arith}
-use borrow.Author.Tests.{lt-ltb, le-ltb}
+use borrow.Author.Tests.{lt-ltb, le-ltb, ltb-true}
 use lib.Dec.{ltb, leb·suc-suc}
 use lib.ListN.{length, getD, length-map}
 use Rattle.terms.specs.declared.entry.Entry.{Entry}
@@ -12,10 +12,10 @@ use Rattle.terms.specs.declared.entry.Slot.the-variants.{Empty}
 use Rattle.terms.specs.Entry.{isStanding, keepIf, those, slotAt, recentOf}
 use Rattle.register.specs.Entries.{entryStart, entryAt}
 use Rattle.journal.specs.declared.survey.Places.{Places}
-use Rattle.journal.specs.Journal.{maxEntries, entriesTo, standing, slotIf}
-use Rattle.journal.specs.Survey.{countsOf}
-use Rattle.journal.specs.Loops.{placeIf, standingAt, placesOf}
-use Rattle.journal.proofs.Entries.{length-entries}
+use Rattle.journal.specs.Journal.{entriesTo, standing, slotIf}
+use Rattle.journal.specs.Inner.Survey.{countsOf}
+use Rattle.journal.specs.Inner.Loops.{placeIf, standingAt, placesOf}
+use Rattle.journal.proofs.Entries.{length-entries, those-at-most}
 use Rattle.journal.proofs.Steps.{newest-at}
 
 -- ---- the entries at the places
@@ -52,21 +52,26 @@ unfolding standingAt
 place-below [] h g n = g
 place-below (e ∷ es) h g n = kept-below (isStanding e) (length es) (standingAt es) n (omega arith) (place-below es (omega arith) g)
 
-module _ (m : ℕ) (a : List ℕ) (p : Places) (few : m ≤ maxEntries) (places : p ≡ placesOf (entriesTo m a)) where
-  below : (n : ℕ) → getD (standingAt (entriesTo m a)) n 0 < maxEntries
-  below = place-below (entriesTo m a) (rw (length-entries m a) few) (omega arith)
-
-  pub newest-below : p .counts .newest < maxEntries
+-- each that is there is one of the entries
+module _ (m : ℕ) (a : List ℕ) (p : Places) (places : p ≡ placesOf (entriesTo m a)) where
+  below : (n k : ℕ) → ltb k (p .counts .standing) ≡ true → getD (standingAt (entriesTo m a)) n 0 < m
   unfolding placesOf countsOf
-  newest-below = rw (places, newest-at) (below 0)
+  below n k h =
+      let stands : k < length (standing (entriesTo m a)) = ltb-true k _ (rw places at h) in
+      let some : 0 < m = omega (arith, those-at-most isStanding (entriesTo m a), length-entries m a) in
+      place-below (entriesTo m a) (omega (arith, length-entries m a)) some n
 
-  pub second-below : p .second < maxEntries
-  unfolding placesOf
-  second-below = rw places (below 1)
+  pub newest-below : ltb 0 (p .counts .standing) ≡ true → p .counts .newest < m
+  unfolding placesOf countsOf
+  newest-below h = rw (places, newest-at) (below 0 0 h)
 
-  pub third-below : p .third < maxEntries
+  pub second-below : ltb 1 (p .counts .standing) ≡ true → p .second < m
   unfolding placesOf
-  third-below = rw places (below 2)
+  second-below h = rw places (below 1 1 h)
+
+  pub third-below : ltb 2 (p .counts .standing) ≡ true → p .third < m
+  unfolding placesOf
+  third-below h = rw places (below 2 2 h)
 
   pub recent-is : recentOf (standing (entriesTo m a)) ≡ record {
     last = slotIf (ltb 0 (p .counts .standing)) (entryAt a (entryStart (p .counts .newest))) Empty;

@@ -10,12 +10,12 @@ use lib.Dec.{eqb}
 use lib.ListN.{length, getD}
 use Rattle.terms.specs.declared.entry.Entry.{Entry}
 use Rattle.terms.specs.Entry.{isStanding, isWithdrawn, keepIf, those}
-use Rattle.journal.specs.Journal.{slotIf}
+use Rattle.journal.specs.Journal.{slotIf, isFlagged, firstValue, newestAt, onDay}
 use Rattle.journal.specs.Sound.{hasRead}
 use Rattle.journal.proofs.Entries.{any-kept}
-use Rattle.journal.specs.Survey.{isFlagged, firstValue, newestAt, countsOf, onDay, foundOf}
+use Rattle.journal.specs.Inner.Survey.{countsOf, foundOf}
 use Rattle.journal.specs.declared.survey.Places.{Places}
-use Rattle.journal.specs.Loops.{placeIf, standingAt, placesOf}
+use Rattle.journal.specs.Inner.Loops.{placeIf, standingAt, placesOf}
 
 -- ---- a list with one entry more, if the entry is kept
 length-kept : (b : Bool) (e : Entry) (es : List Entry) → length (keepIf b e es) ≡ cond b (length es + 1) (length es)

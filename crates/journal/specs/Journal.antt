@@ -1,5 +1,5 @@
 -- 01, The register: what an area of 512 bytes means. Lists of entries have the newest first.
-use mathlib.Core.Bool.{Bool, true, false, not, _&&_, _||_, cond}
+use mathlib.Core.Bool.{Bool, true, false, _&&_, _||_, cond}
 use mathlib.Core.List.{List, [], _∷_}
 use Prim.Native.Nat.{ℕ, zero, suc}
 use lib.Dec.{eqb}
@@ -8,40 +8,36 @@ use Rattle.terms.specs.declared.entry.Entry.{Entry}
 use Rattle.terms.specs.declared.entry.Slot.{Slot}
 use Rattle.terms.specs.declared.entry.Slot.the-variants.{Read, Empty}
 use Rattle.terms.specs.Entry.{isStanding, isWithdrawn, isHeld, those}
+use Rattle.register.specs.declared.head.Head.{Head}
 use Rattle.register.specs.Bytes.{byteAt}
-use Rattle.register.specs.Entries.{dialsOf, capacityOf, entryStart, entryAt}
+use Rattle.register.specs.Entries.{entryStart, entryAt}
+use Rattle.register.specs.Head.{headOf, mostEntries, bodyOf}
 
 -- "An area is all zero (not enrolled)"
 unfoldable pub allZero : List ℕ → Bool
 allZero [] = true
 allZero (b ∷ bs) = eqb b 0 && allZero bs
 
--- "at most 50 entries after the first"
-abbrev pub maxEntries : ℕ
-maxEntries = 50
-
--- the first k entries after the meter's
+-- the first k entries of a body
 unfoldable pub entriesTo : ℕ → List ℕ → List Entry
-entriesTo zero area = []
-entriesTo (suc k) area = entryAt area (entryStart k) ∷ entriesTo k area
+entriesTo zero body = []
+entriesTo (suc k) body = entryAt body (entryStart k) ∷ entriesTo k body
 
--- how many entries there are: a journal ends at its first zero kind byte. k are counted, and at most `left` more may be.
+-- how many entries a body has: they end at the first zero kind byte. k are counted, and at most `left` more may be.
 unfoldable pub countFrom : ℕ → ℕ → List ℕ → ℕ
-countFrom zero k area = k
-countFrom (suc left) k area = cond (eqb (byteAt area (entryStart k)) 0) k (countFrom left (suc k) area)
+countFrom zero k body = k
+countFrom (suc left) k body = cond (eqb (byteAt body (entryStart k)) 0) k (countFrom left (suc k) body)
 
 unfoldable pub entryCount : List ℕ → ℕ
-entryCount area = countFrom maxEntries 0 area
+entryCount area = countFrom (mostEntries (headOf area)) 0 (bodyOf area)
 
 -- a journal: what an area holds, apart from its bytes
 pub record Journal : Type 0 where
-  pub dials : ℕ
-  pub capacity : ℕ
+  pub head : Head
   pub entries : List Entry
 
 unfoldable pub journalOf : List ℕ → Journal
-journalOf area =
-    record { dials = dialsOf area; capacity = capacityOf area; entries = entriesTo (entryCount area) area }
+journalOf area = record { head = headOf area; entries = entriesTo (entryCount area) (bodyOf area) }
 
 -- "Kinds 2 standing, 3 withdrawn, 4 held"
 abbrev pub standing : List Entry → List Entry
@@ -65,3 +61,28 @@ slotIf false e other = other
 unfoldable pub heldOf : List Entry → Slot
 heldOf [] = Empty
 heldOf (e ∷ es) = slotIf (isHeld e) e Empty
+
+-- whether a read exists
+unfoldable pub isThere : Slot → Bool
+isThere (Read e) = true
+isThere Empty = false
+
+-- the standing read of a day
+unfoldable pub onDay : ℕ → List Entry → Slot
+onDay day [] = Empty
+onDay day (s ∷ ss) = slotIf (eqb (s .day) day) s (onDay day ss)
+
+-- "flag (1 byte, 1 if rollover, else 0)"
+unfoldable pub isFlagged : Entry → Bool
+isFlagged e = eqb (e .flag) 1
+
+-- the value of the first standing read, and 0 where none stands
+unfoldable pub firstValue : List Entry → ℕ
+firstValue [] = 0
+firstValue (s ∷ []) = s .value
+firstValue (s ∷ t ∷ ss) = firstValue (t ∷ ss)
+
+-- how many entries come before the last standing one
+unfoldable pub newestAt : List Entry → ℕ
+newestAt [] = 0
+newestAt (e ∷ es) = cond (isStanding e) (length es) (newestAt es)

@@ -1,4 +1,3 @@
 pub mod Journal
 pub mod Sound
-pub mod Survey
-pub mod Loops
+pub mod Inner

@@ -9,7 +9,9 @@ use Rattle.terms.specs.declared.entry.Entry.{Entry}
 use Rattle.terms.specs.Letter.{isKnown, isOpening, isFinal, isHoldable}
 use Rattle.terms.specs.Entry.{kindMeter, indicatorNotSet, indicatorTrue, isStanding, isWithdrawn, isHeld}
 use Rattle.register.specs.Bytes.{byteAt}
-use Rattle.register.specs.Entries.{dialsOf, capacityOf, entryStart}
+use Rattle.register.specs.declared.head.Head.{Head}
+use Rattle.register.specs.Entries.{entryStart}
+use Rattle.register.specs.Head.{headOf, bodyOf}
 use Rattle.journal.specs.Journal.{allZero, entryCount, journalOf, standing, withdrawn}
 
 -- every entry, or any entry, passes a test
@@ -28,26 +30,40 @@ leastDials = 4
 abbrev pub mostDials : ℕ
 mostDials = 9
 
-unfoldable pub isPlate : ℕ → ℕ → Bool
-isPlate dials capacity = leb leastDials dials && (leb dials mostDials && not (eqb capacity 0))
+unfoldable pub isPlate : Head → Bool
+isPlate head = leb leastDials (head .dials) && (leb (head .dials) mostDials && not (eqb (head .capacity) 0))
 
-unfoldable pub isMeter : List ℕ → Bool
-isMeter area = eqb (byteAt area 0) kindMeter && isPlate (dialsOf area) (capacityOf area)
+unfoldable pub isHead : List ℕ → Bool
+isHead area = eqb (byteAt area 0) kindMeter && isPlate (headOf area)
 
+-- ---- what a meter asks of its reads
+-- what its dials hold: "value (4 bytes, below 10^n)"
+unfoldable pub holds : Head → ℕ → Bool
+holds head value = ltb value (tenTo (head .dials))
+
+-- the types that it takes
+unfoldable pub takes : Head → ℕ → Bool
+takes head letter = isKnown letter
+
+-- how its first standing read opens: "The first standing read is type I or O with flag 0"
+unfoldable pub opens : Head → Entry → Bool
+opens head s = isOpening (s .letter) && eqb (s .flag) 0
+
+-- ---- one entry: each field in its range
 -- "Kinds 2 standing, 3 withdrawn, 4 held, one body: day (2 bytes, 1 to 65,535; ..), value (4 bytes, below 10^n), type (ASCII letter),
--- indicator (1 byte: 0 not set, 1 false, 2 true), flag (1 byte, 1 if rollover, else 0)." "I and O have indicator 0 wherever they appear." The
--- limit is 10^n.
-unfoldable pub isBody : ℕ → Entry → Bool
-isBody limit e =
+-- indicator (1 byte: 0 not set, 1 false, 2 true), flag (1 byte, 1 if rollover, else 0)." "I and O have indicator 0 wherever they appear."
+unfoldable pub isInRange : Head → Entry → Bool
+isInRange head e =
     not (eqb (e .day) 0)
-    && (ltb (e .value) limit
-    && (isKnown (e .letter)
+    && (holds head (e .value)
+    && (takes head (e .letter)
     && (leb (e .indicator) indicatorTrue
     && (leb (e .flag) 1 && (not (isOpening (e .letter)) || eqb (e .indicator) indicatorNotSet)))))
 
-unfoldable pub isRead : ℕ → Entry → Bool
-isRead limit e = (isStanding e || (isWithdrawn e || isHeld e)) && isBody limit e
+unfoldable pub isRead : Head → Entry → Bool
+isRead head e = (isStanding e || (isWithdrawn e || isHeld e)) && isInRange head e
 
+-- ---- the entries together
 -- "Standing days strictly rise."
 unfoldable pub daysRise : List Entry → Bool
 daysRise [] = true
@@ -55,10 +71,10 @@ daysRise (s ∷ []) = true
 daysRise (s ∷ t ∷ ss) = ltb (t .day) (s .day) && daysRise (t ∷ ss)
 
 -- "The first standing read is type I or O with flag 0; no later one is I or O"
-unfoldable pub opensRight : List Entry → Bool
-opensRight [] = true
-opensRight (s ∷ []) = isOpening (s .letter) && eqb (s .flag) 0
-opensRight (s ∷ t ∷ ss) = not (isOpening (s .letter)) && opensRight (t ∷ ss)
+unfoldable pub opensRight : Head → List Entry → Bool
+opensRight head [] = true
+opensRight head (s ∷ []) = opens head s
+opensRight head (s ∷ t ∷ ss) = not (isOpening (s .letter)) && opensRight head (t ∷ ss)
 
 abbrev pub isFinalRead : Entry → Bool
 isFinalRead e = isFinal (e .letter)
@@ -98,17 +114,16 @@ isHeldRight [] = true
 isHeldRight (e ∷ es) = not (any isHeld es) && (not (isHeld e) || mayBeHeld e (standing es))
 
 -- the entries of a sound journal, but for the clause that compares standing and withdrawn reads
-unfoldable pub areInOrder : ℕ → List Entry → Bool
-areInOrder limit es =
-    every (isRead limit) es
-    && (daysRise (standing es) && (opensRight (standing es) && (hasOneFinal (standing es) && isHeldRight es)))
+unfoldable pub areInOrder : Head → List Entry → Bool
+areInOrder head es =
+    every (isRead head) es
+    && (daysRise (standing es) && (opensRight head (standing es) && (hasOneFinal (standing es) && isHeldRight es)))
 
-unfoldable pub areSound : ℕ → List Entry → Bool
-areSound limit es = areInOrder limit es && areApart (standing es) (withdrawn es)
+unfoldable pub areSound : Head → List Entry → Bool
+areSound head es = areInOrder head es && areApart (standing es) (withdrawn es)
 
--- a sound area: a meter, its entries, "then zeros to the end"
+-- a sound area: a head, the entries, "then zeros to the end"
 unfoldable pub isSound : List ℕ → Bool
 isSound area =
-    isMeter area
-    && (allZero (drop (entryStart (entryCount area)) area)
-    && areSound (tenTo (journalOf area .dials)) (journalOf area .entries))
+    isHead area
+    && (allZero (drop (entryStart (entryCount area)) (bodyOf area)) && areSound (headOf area) (journalOf area .entries))

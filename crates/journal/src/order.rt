@@ -1,8 +1,10 @@
 // Whether an entry may follow those before it.
 ghost use mathlib.Core.Path.{_≡_};
 ghost use Rattle.terms.specs.Entry.{isStanding, isWithdrawn, isHeld};
-ghost use Rattle.journal.specs.Sound.{isBody, isRead, isFinalRead};
-ghost use Rattle.journal.specs.Loops.{standsBy, followsBy};
+ghost use Rattle.arithmetic.specs.Powers.{tenTo};
+ghost use Rattle.register.specs.declared.head.Head.{Head};
+ghost use Rattle.journal.specs.Sound.{isInRange, isRead, isFinalRead};
+ghost use Rattle.journal.specs.Inner.Loops.{standsBy, followsBy};
 use terms::entry::Entry;
 use terms::entry::Kind;
 use terms::letter::Letter;
@@ -35,9 +37,9 @@ pub(crate) fn is_final(e: Entry) -> bool
     e.letter == Letter::FINAL
 }
 
-// The ranges of a body's fields; the limit is 10^n. Most bodies pass every test, so that the early returns cost little.
-fn is_body(limit: u64, e: Entry) -> bool
-    ensures { λ r. ⌜ r ≡ isBody limit e ⌝ }
+// The ranges of an entry's fields; the limit is 10^n. Most entries pass every test, so that the early returns cost little.
+fn is_in_range(limit: u64, e: Entry) -> bool
+    ensures { λ r. ⌜ ((head : Head) → limit ≡ tenTo (head .dials) → r ≡ isInRange head e) ⌝ }
 {
     if e.day == 0 {
         return false;
@@ -54,17 +56,17 @@ fn is_body(limit: u64, e: Entry) -> bool
 }
 
 fn is_read(limit: u64, e: Entry) -> bool
-    ensures { λ r. ⌜ r ≡ isRead limit e ⌝ }
+    ensures { λ r. ⌜ ((head : Head) → limit ≡ tenTo (head .dials) → r ≡ isRead head e) ⌝ }
 {
     if !(is_standing(e) | (is_withdrawn(e) | is_held(e))) {
         return false;
     }
-    is_body(limit, e)
+    is_in_range(limit, e)
 }
 
 // The first standing read opens the journal; a later one is later and does not. Whether a read stands, and the day of the last one.
 fn may_stand(e: Entry, stands: bool, last: u16) -> bool
-    ensures { λ r. ⌜ r ≡ standsBy e stands last ⌝ }
+    ensures { λ r. ⌜ ((head : Head) → r ≡ standsBy head e stands last) ⌝ }
 {
     if stands {
         return (last < e.day) & !is_opening(e.letter);
@@ -81,7 +83,7 @@ pub(crate) fn may_follow(
     held: bool,
     ended: bool,
 ) -> bool
-    ensures { λ r. ⌜ r ≡ followsBy limit e stands last held ended ⌝ }
+    ensures { λ r. ⌜ ((head : Head) → limit ≡ tenTo (head .dials) → r ≡ followsBy head e stands last held ended) ⌝ }
 {
     if held {
         return false;

@@ -1,6 +1,7 @@
 // The plate of a meter: its dials and its capacity.
 ghost use mathlib.Core.Path.{_≡_};
 ghost use Rattle.journal.specs.Sound.{isPlate};
+use register::head::Head;
 
 // The dials that a meter may have.
 pub struct Dials;
@@ -12,8 +13,8 @@ impl Dials {
 }
 
 // Dials and a capacity that a meter may have.
-pub fn is_plate(dials: u8, capacity: u32) -> bool
-    ensures { λ r. ⌜ r ≡ isPlate dials capacity ⌝ }
+pub fn is_plate(head: Head) -> bool
+    ensures { λ r. ⌜ r ≡ isPlate head ⌝ }
 {
-    (Dials::LEAST <= dials) & ((dials <= Dials::MOST) & !(capacity == 0))
+    (Dials::LEAST <= head.dials) & ((head.dials <= Dials::MOST) & !(head.capacity == 0))
 }

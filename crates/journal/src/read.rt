@@ -1,12 +1,14 @@
 // Reading the entries of an area.
 ghost use mathlib.Core.Path.{_≡_};
-ghost use Prim.Native.Nat.{_+_, _≤_, _<_};
+ghost use Prim.Native.Nat.{_+_, _≤_};
 ghost use lib.ListN.{length};
 ghost use Rattle.register.specs.Area.{areaBytes};
 ghost use Rattle.register.specs.Bytes.{wordAt, longAt};
 ghost use Rattle.register.specs.Entries.{entryStart, entryAt};
-ghost use Rattle.journal.specs.Journal.{maxEntries, entryCount};
+ghost use Rattle.register.specs.Head.{headOf};
+ghost use Rattle.journal.specs.Journal.{countFrom};
 use register::area::Layout;
+use register::head::Head;
 use terms::entry::Entry;
 
 pub(crate) fn word_at(bytes: &[u8], i: usize) -> u16
@@ -27,33 +29,45 @@ pub(crate) fn long_at(bytes: &[u8], i: usize) -> u32
     low + 65536 * high
 }
 
-// The entry after k others.
-pub(crate) fn entry_at(area: &[u8], k: u8) -> Entry
-    requires { ⌜ (length (now area) ≡ areaBytes) × (k < maxEntries) ⌝ }
-    ensures { λ r. ⌜ r ≡ entryAt (now (area .entry)) (entryStart k) ⌝ }
+// The head of an area.
+pub(crate) fn head_at(area: &[u8]) -> Head
+    requires { ⌜ length (now area) ≡ areaBytes ⌝ }
+    ensures { λ r. ⌜ r ≡ headOf (now (area .entry)) ⌝ }
 {
-    let at = Layout::METER_BYTES + Layout::ENTRY_BYTES * (k as usize);
-    let day = word_at(area, at + 1);
-    let value = long_at(area, at + 3);
+    let capacity = long_at(area, 2);
+    Head {
+        dials: area[1],
+        capacity,
+    }
+}
+
+// The entry after k others.
+pub(crate) fn entry_at(body: &[u8], k: u8) -> Entry
+    requires { ⌜ entryStart (k + 1) ≤ length (now body) ⌝ }
+    ensures { λ r. ⌜ r ≡ entryAt (now (body .entry)) (entryStart k) ⌝ }
+{
+    let at = Layout::ENTRY_BYTES * (k as usize);
+    let day = word_at(body, at + 1);
+    let value = long_at(body, at + 3);
     Entry {
-        kind: area[at],
+        kind: body[at],
         day,
         value,
-        letter: area[at + 7],
-        indicator: area[at + 8],
-        flag: area[at + 9],
+        letter: body[at + 7],
+        indicator: body[at + 8],
+        flag: body[at + 9],
     }
 }
 
 // How many entries come before the first zero kind byte.
-pub(crate) fn entry_count(area: &[u8]) -> u8
-    requires { ⌜ length (now area) ≡ areaBytes ⌝ }
-    ensures { λ r. ⌜ r ≡ entryCount (now (area .entry)) ⌝ }
+pub(crate) fn entry_count(body: &[u8], most: u8) -> u8
+    requires { ⌜ entryStart most ≤ length (now body) ⌝ }
+    ensures { λ r. ⌜ r ≡ countFrom most 0 (now (body .entry)) ⌝ }
 {
     let mut k: u8 = 0;
-    while k < Layout::MAX_ENTRIES {
-        let at = Layout::METER_BYTES + Layout::ENTRY_BYTES * (k as usize);
-        if area[at] == 0 {
+    while k < most {
+        let at = Layout::ENTRY_BYTES * (k as usize);
+        if body[at] == 0 {
             return k;
         }
         k += 1;

@@ -1,6 +1,6 @@
 // Whether a read exists.
 ghost use mathlib.Core.Path.{_≡_};
-ghost use Rattle.journal.specs.Survey.{isThere};
+ghost use Rattle.journal.specs.Journal.{isThere};
 use terms::entry::Slot;
 
 pub fn is_there(slot: Slot) -> bool

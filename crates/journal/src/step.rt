@@ -3,11 +3,13 @@ ghost use mathlib.Core.Path.{_≡_};
 ghost use mathlib.Core.List.{List, _∷_};
 ghost use Prim.Native.Nat.{_<_};
 ghost use lib.ListN.{length};
+ghost use Rattle.arithmetic.specs.Powers.{tenTo};
 ghost use Rattle.terms.specs.declared.entry.Entry.{Entry};
+ghost use Rattle.register.specs.declared.head.Head.{Head};
 ghost use Rattle.journal.specs.Journal.{heldOf};
 ghost use Rattle.journal.specs.Sound.{hasRead};
-ghost use Rattle.journal.specs.Survey.{countsOf, foundOf};
-ghost use Rattle.journal.specs.Loops.{orderOf, placesOf};
+ghost use Rattle.journal.specs.Inner.Survey.{countsOf, foundOf};
+ghost use Rattle.journal.specs.Inner.Loops.{orderOf, placesOf};
 use crate::order::is_final;
 use crate::order::is_held;
 use crate::order::is_standing;
@@ -115,7 +117,7 @@ pub(crate) fn find(found: Found, day: u16, value: u32, e: Entry) -> Found
 
 // The order, and what the next entry's depends on.
 pub(crate) fn advance_order(order: Order, limit: u64, e: Entry) -> Order
-    ensures { λ r. ⌜ ((es : List Entry) → order ≡ orderOf limit es → r ≡ orderOf limit (e ∷ es)) ⌝ }
+    ensures { λ r. ⌜ ((head : Head) (es : List Entry) → limit ≡ tenTo (head .dials) → order ≡ orderOf head es → r ≡ orderOf head (e ∷ es)) ⌝ }
 {
     let follows = may_follow(limit, e, order.stands, order.day, order.held, order.ended);
     let sound = follows & order.sound;

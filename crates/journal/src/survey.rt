@@ -1,22 +1,25 @@
 // What the loops over an area gather for the calls.
 ghost use mathlib.Core.Path.{_≡_};
-ghost use mathlib.Core.Bool.{false};
+ghost use mathlib.Core.Bool.{true, false};
 ghost use mathlib.Core.List.{[]};
-ghost use Prim.Native.Nat.{ℕ, _≤_, _<_};
+ghost use Prim.Native.Nat.{ℕ, _+_, _≤_};
 ghost use lib.ListN.{length};
+ghost use Rattle.arithmetic.specs.Powers.{tenTo};
 ghost use Rattle.register.specs.Area.{areaBytes};
 ghost use Rattle.terms.specs.declared.entry.Slot.the-variants.{Empty};
 ghost use Rattle.terms.specs.Entry.{recentOf};
+ghost use Rattle.register.specs.declared.head.Head.{Head};
 ghost use Rattle.register.specs.Entries.{entryStart, entryAt};
-ghost use Rattle.journal.specs.Journal.{maxEntries, entriesTo, allZero, standing, slotIf, heldOf};
-ghost use Rattle.journal.specs.Sound.{isMeter};
-ghost use Rattle.journal.specs.Survey.{foundOf, surveyed};
-ghost use Rattle.journal.specs.Loops.{orderOf, placesOf};
+ghost use Rattle.register.specs.Head.{headOf, mostEntries};
+ghost use Rattle.journal.specs.Journal.{entriesTo, allZero, standing, slotIf, heldOf};
+ghost use Rattle.journal.specs.Sound.{isHead};
+ghost use Rattle.journal.specs.Inner.Survey.{foundOf, surveyed, surveyedBody};
+ghost use Rattle.journal.specs.Inner.Loops.{orderOf, placesOf};
 use crate::apart::is_apart;
 use crate::plate::is_plate;
 use crate::read::entry_at;
 use crate::read::entry_count;
-use crate::read::long_at;
+use crate::read::head_at;
 use crate::step::advance_order;
 use crate::step::find;
 use crate::step::held_of;
@@ -24,6 +27,9 @@ use crate::step::place;
 use crate::zeros::is_zero_from;
 use arithmetic::powers::power;
 use register::area::Layout;
+use register::head::Head;
+use register::head::head_bytes;
+use register::head::most_entries;
 use terms::entry::Kind;
 use terms::entry::Recent;
 use terms::entry::Slot;
@@ -70,8 +76,7 @@ pub struct Places {
 }
 
 pub struct Survey {
-    pub dials: u8,
-    pub capacity: u32,
+    pub head: Head,
     pub entries: u8,
     pub counts: Counts,
     pub recent: Recent,
@@ -88,7 +93,7 @@ pub enum Surveyed {
 }
 
 fn start_order() -> Order
-    ensures { λ r. ⌜ ((limit : ℕ) → r ≡ orderOf limit []) ⌝ }
+    ensures { λ r. ⌜ ((head : Head) → r ≡ orderOf head []) ⌝ }
 {
     Order {
         sound: true,
@@ -100,14 +105,14 @@ fn start_order() -> Order
 }
 
 // The order of the first m entries.
-fn order_over(area: &[u8], m: u8, limit: u64) -> Order
-    requires { ⌜ (length (now area) ≡ areaBytes) × (m ≤ maxEntries) ⌝ }
-    ensures { λ r. ⌜ r ≡ orderOf limit (entriesTo m (now (area .entry))) ⌝ }
+fn order_over(body: &[u8], m: u8, limit: u64) -> Order
+    requires { ⌜ entryStart m ≤ length (now body) ⌝ }
+    ensures { λ r. ⌜ ((head : Head) → limit ≡ tenTo (head .dials) → r ≡ orderOf head (entriesTo m (now (body .entry)))) ⌝ }
 {
     let mut order = start_order();
     let mut k: u8 = 0;
     while k < m {
-        let e = entry_at(area, k);
+        let e = entry_at(body, k);
         order = advance_order(order, limit, e);
         k += 1;
     }
@@ -131,14 +136,14 @@ fn start_places() -> Places
 }
 
 // The counts and places of the first m entries.
-fn places_over(area: &[u8], m: u8) -> Places
-    requires { ⌜ (length (now area) ≡ areaBytes) × (m ≤ maxEntries) ⌝ }
-    ensures { λ r. ⌜ r ≡ placesOf (entriesTo m (now (area .entry))) ⌝ }
+fn places_over(body: &[u8], m: u8) -> Places
+    requires { ⌜ entryStart m ≤ length (now body) ⌝ }
+    ensures { λ r. ⌜ r ≡ placesOf (entriesTo m (now (body .entry))) ⌝ }
 {
     let mut places = start_places();
     let mut k: u8 = 0;
     while k < m {
-        let e = entry_at(area, k);
+        let e = entry_at(body, k);
         places = place(places, k, e);
         k += 1;
     }
@@ -156,14 +161,14 @@ fn start_found() -> Found
 }
 
 // What the first m entries have of a day and a value.
-fn found_over(area: &[u8], m: u8, day: u16, value: u32) -> Found
-    requires { ⌜ (length (now area) ≡ areaBytes) × (m ≤ maxEntries) ⌝ }
-    ensures { λ r. ⌜ r ≡ foundOf day value (entriesTo m (now (area .entry))) ⌝ }
+fn found_over(body: &[u8], m: u8, day: u16, value: u32) -> Found
+    requires { ⌜ entryStart m ≤ length (now body) ⌝ }
+    ensures { λ r. ⌜ r ≡ foundOf day value (entriesTo m (now (body .entry))) ⌝ }
 {
     let mut found = start_found();
     let mut k: u8 = 0;
     while k < m {
-        let e = entry_at(area, k);
+        let e = entry_at(body, k);
         found = find(found, day, value, e);
         k += 1;
     }
@@ -171,25 +176,25 @@ fn found_over(area: &[u8], m: u8, day: u16, value: u32) -> Found
 }
 
 // The entry after k others, if it exists.
-fn slot_from(area: &[u8], exists: bool, k: u8) -> Slot
-    requires { ⌜ (length (now area) ≡ areaBytes) × (k < maxEntries) ⌝ }
-    ensures { λ r. ⌜ r ≡ slotIf exists (entryAt (now (area .entry)) (entryStart k)) Empty ⌝ }
+fn slot_from(body: &[u8], exists: bool, k: u8) -> Slot
+    requires { ⌜ (exists ≡ true → entryStart (k + 1) ≤ length (now body)) ⌝ }
+    ensures { λ r. ⌜ r ≡ slotIf exists (entryAt (now (body .entry)) (entryStart k)) Empty ⌝ }
 {
     if exists {
-        return Slot::Read(entry_at(area, k));
+        return Slot::Read(entry_at(body, k));
     }
     Slot::Empty
 }
 
 // The last three standing reads of the first m entries, from their places.
-fn recent_from(area: &[u8], m: u8, places: Places) -> Recent
-    requires { ⌜ (length (now area) ≡ areaBytes) × (m ≤ maxEntries) × (places ≡ placesOf (entriesTo m (now area))) ⌝ }
-    ensures { λ r. ⌜ r ≡ recentOf (standing (entriesTo m (now (area .entry)))) ⌝ }
+fn recent_from(body: &[u8], m: u8, places: Places) -> Recent
+    requires { ⌜ (entryStart m ≤ length (now body)) × (places ≡ placesOf (entriesTo m (now body))) ⌝ }
+    ensures { λ r. ⌜ r ≡ recentOf (standing (entriesTo m (now (body .entry)))) ⌝ }
 {
     let counts = places.counts;
-    let last = slot_from(area, 0 < counts.standing, counts.newest);
-    let second = slot_from(area, 1 < counts.standing, places.second);
-    let third = slot_from(area, 2 < counts.standing, places.third);
+    let last = slot_from(body, 0 < counts.standing, counts.newest);
+    let second = slot_from(body, 1 < counts.standing, places.second);
+    let third = slot_from(body, 2 < counts.standing, places.third);
     Recent {
         last,
         second,
@@ -198,51 +203,44 @@ fn recent_from(area: &[u8], m: u8, places: Places) -> Recent
 }
 
 // The held read of the first m entries: only the last can be one.
-fn held_over(area: &[u8], m: u8) -> Slot
-    requires { ⌜ (length (now area) ≡ areaBytes) × (m ≤ maxEntries) ⌝ }
-    ensures { λ r. ⌜ r ≡ heldOf (entriesTo m (now (area .entry))) ⌝ }
+fn held_over(body: &[u8], m: u8) -> Slot
+    requires { ⌜ entryStart m ≤ length (now body) ⌝ }
+    ensures { λ r. ⌜ r ≡ heldOf (entriesTo m (now (body .entry))) ⌝ }
 {
     if m == 0 {
         return Slot::Empty;
     }
-    let e = entry_at(area, m - 1);
+    let e = entry_at(body, m - 1);
     held_of(e)
 }
 
-fn is_meter(area: &[u8]) -> bool
-    requires { ⌜ length (now area) ≡ areaBytes ⌝ }
-    ensures { λ r. ⌜ r ≡ isMeter (now (area .entry)) ⌝ }
+fn is_head(area: &[u8], head: Head) -> bool
+    requires { ⌜ (length (now area) ≡ areaBytes) × (head ≡ headOf (now area)) ⌝ }
+    ensures { λ r. ⌜ r ≡ isHead (now (area .entry)) ⌝ }
 {
-    let capacity = long_at(area, 2);
-    (area[0] == Kind::METER) & is_plate(area[1], capacity)
+    (area[0] == Kind::METER) & is_plate(head)
 }
 
-// An area of 512 bytes that are not all zero.
-fn survey_journal(area: &[u8], day: u16, value: u32) -> Surveyed
-    requires { ⌜ (length (now area) ≡ areaBytes) × (allZero (now area) ≡ false) ⌝ }
-    ensures { λ r. ⌜ r ≡ surveyed day value (now (area .entry)) ⌝ }
+// The entries that follow a head.
+fn survey_body(body: &[u8], head: Head, day: u16, value: u32) -> Surveyed
+    requires { ⌜ entryStart (mostEntries head) ≤ length (now body) ⌝ }
+    ensures { λ r. ⌜ r ≡ surveyedBody day value head (now (body .entry)) ⌝ }
 {
-    if !is_meter(area) {
+    let entries = entry_count(body, most_entries(head));
+    if !is_zero_from(body, Layout::ENTRY_BYTES * (entries as usize)) {
         return Surveyed::Damaged;
     }
-    let entries = entry_count(area);
-    let end = Layout::METER_BYTES + Layout::ENTRY_BYTES * (entries as usize);
-    if !is_zero_from(area, end) {
+    let order = order_over(body, entries, power(head.dials));
+    if !(order.sound & is_apart(body, entries)) {
         return Surveyed::Damaged;
     }
-    let dials = area[1];
-    let order = order_over(area, entries, power(dials));
-    if !(order.sound & is_apart(area, entries)) {
-        return Surveyed::Damaged;
-    }
-    let places = places_over(area, entries);
-    let counts = places.counts;
-    let recent = recent_from(area, entries, places);
-    let held = held_over(area, entries);
-    let found = found_over(area, entries, day, value);
+    let positions = places_over(body, entries);
+    let counts = positions.counts;
+    let recent = recent_from(body, entries, positions);
+    let held = held_over(body, entries);
+    let found = found_over(body, entries, day, value);
     Surveyed::Sound(Survey {
-        dials,
-        capacity: long_at(area, 2),
+        head,
         entries,
         counts,
         recent,
@@ -250,6 +248,19 @@ fn survey_journal(area: &[u8], day: u16, value: u32) -> Surveyed
         ended: order.ended,
         found,
     })
+}
+
+// An area of 512 bytes that are not all zero.
+fn survey_journal(area: &[u8], day: u16, value: u32) -> Surveyed
+    requires { ⌜ (length (now area) ≡ areaBytes) × (allZero (now area) ≡ false) ⌝ }
+    ensures { λ r. ⌜ r ≡ surveyed day value (now (area .entry)) ⌝ }
+{
+    let head = head_at(area);
+    if !is_head(area, head) {
+        return Surveyed::Damaged;
+    }
+    let start = head_bytes(head);
+    survey_body(&area[start..], head, day, value)
 }
 
 // All zero, damaged, or sound with what the calls need: for any bytes whatever. An area whose first byte is not zero need not be looked

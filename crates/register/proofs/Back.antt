@@ -9,7 +9,9 @@ use lib.Seq.{getD-set-same, getD-set-other, getD-take, getD-drop, take-set-le, d
 use Rattle.terms.specs.declared.entry.Entry.{Entry}
 use Rattle.terms.specs.Entry.{kindMeter}
 use Rattle.register.specs.Bytes.{byteAt, wordAt, longAt, putWord, putLong}
-use Rattle.register.specs.Entries.{meterBytes, dialsOf, capacityOf, entryAt, putMeter, putEntry}
+use Rattle.register.specs.declared.head.Head.{Head}
+use Rattle.register.specs.Entries.{entryAt, putEntry}
+use Rattle.register.specs.Head.{meterBytes, headOf, putHead}
 
 -- ---- lists that agree from low up to high: what is read there is the same
 module _ (a b : List ℕ) (low high : ℕ) (h : (j : ℕ) → low ≤ j → j < high → getD a j 0 ≡ getD b j 0) where
@@ -218,39 +220,40 @@ module _ (a : List ℕ) (i : ℕ) (e : Entry) (room : i + 10 ≤ length a) where
       let flag = getD-set-same s₅ (i + 9) (e .flag) 0 l₅ in
       λ t. record { kind = kind t; day = day t; value = value t; letter = letter t; indicator = indicator t; flag = flag t }
 
--- ---- the meter's entry written
-module _ (a : List ℕ) (dials capacity : ℕ) where
-  pub meter-length : length (putMeter a dials capacity) ≡ length a
-  unfolding putMeter
-  meter-length = simp (long-length, length-set)
+-- ---- the head written
+module _ (a : List ℕ) (head : Head) where
+  pub head-length : length (putHead a head) ≡ length a
+  unfolding putHead
+  head-length = simp (long-length, length-set)
 
-  pub meter-above : (n : ℕ) → meterBytes ≤ n → drop n (putMeter a dials capacity) ≡ drop n a
-  unfolding putMeter
-  meter-above n l =
+  pub head-above : (n : ℕ) → meterBytes ≤ n → drop n (putHead a head) ≡ drop n a
+  unfolding putHead
+  head-above n l =
       let l₀ : 0 < n = omega arith in
       let l₁ : 1 < n = omega arith in
       let l₂ : 2 + 4 ≤ n = omega arith in
       simp (drop-set-lt, long-above)
 
   module _ (room : meterBytes ≤ length a) where
-    abbrev head : List ℕ
-    head = set (set a 0 kindMeter) 1 dials
+    abbrev front : List ℕ
+    front = set (set a 0 kindMeter) 1 (head .dials)
 
-    below : take 2 (putMeter a dials capacity) ≡ take 2 head
-    unfolding putMeter
-    below = long-below head 2 capacity 2 (omega arith)
+    below : take 2 (putHead a head) ≡ take 2 front
+    unfolding putHead
+    below = long-below front 2 (head .capacity) 2 (omega arith)
 
-    pub meter-kind : byteAt (putMeter a dials capacity) 0 ≡ kindMeter
-    meter-kind =
-        same-byte (putMeter a dials capacity) head 2 below 0 (omega arith)
-        ∙ getD-set-other (set a 0 kindMeter) 1 0 dials 0 (omega arith)
+    pub head-kind : byteAt (putHead a head) 0 ≡ kindMeter
+    head-kind =
+        same-byte (putHead a head) front 2 below 0 (omega arith)
+        ∙ getD-set-other (set a 0 kindMeter) 1 0 (head .dials) 0 (omega arith)
         ∙ getD-set-same a 0 kindMeter 0 (omega arith)
 
-    pub meter-dials : dialsOf (putMeter a dials capacity) ≡ dials
-    meter-dials =
-        same-byte (putMeter a dials capacity) head 2 below 1 (omega arith)
-        ∙ getD-set-same (set a 0 kindMeter) 1 dials 0 (simp length-set (omega arith))
-
-    pub meter-capacity : capacityOf (putMeter a dials capacity) ≡ capacity
-    unfolding putMeter
-    meter-capacity = long-same head 2 capacity (simp length-set (omega arith))
+    pub head-same : headOf (putHead a head) ≡ head
+    unfolding headOf putHead
+    head-same =
+        let dials : byteAt (putHead a head) 1 ≡ head .dials =
+        same-byte (putHead a head) front 2 below 1 (omega arith)
+        ∙ getD-set-same (set a 0 kindMeter) 1 (head .dials) 0 (simp length-set (omega arith))
+        in
+        let capacity : longAt (putHead a head) 2 ≡ head .capacity = long-same front 2 (head .capacity) (simp length-set (omega arith)) in
+        λ t. record { dials = dials t; capacity = capacity t }

@@ -1,3 +1,4 @@
 pub mod Areas
 pub mod Back
 pub mod Lent
+pub mod Body

@@ -1,3 +1,4 @@
 pub mod Area
 pub mod Bytes
 pub mod Entries
+pub mod Head

@@ -8,10 +8,6 @@ impl Layout {
 
     pub const REGISTER_BYTES: usize = 32768;
 
-    pub const METER_BYTES: usize = 6;
-
+    // An entry of a read: its kind and its body.
     pub const ENTRY_BYTES: usize = 10;
-
-    // The most entries that follow a meter's.
-    pub const MAX_ENTRIES: u8 = 50;
 }

@@ -3,8 +3,9 @@ ghost use mathlib.Core.Path.{_≡_};
 ghost use Prim.Native.Nat.{_<_};
 ghost use lib.ListN.{set};
 ghost use Rattle.register.specs.Bytes.{putWord, putLong};
-ghost use Rattle.register.specs.Entries.{putMeter, putEntry, entryStart};
-use crate::area::Layout;
+ghost use Rattle.register.specs.Entries.{putEntry};
+ghost use Rattle.register.specs.Head.{putHead};
+use crate::head::Head;
 use terms::entry::Entry;
 use terms::entry::Kind;
 
@@ -17,7 +18,7 @@ pub fn put_byte(bytes: &mut [u8], i: usize, v: u8)
 }
 
 fn put_word(bytes: &mut [u8], i: usize, v: u16)
-    requires { ⌜ i < 65536 ⌝ }
+    requires { ⌜ i < 70000 ⌝ }
     ensures { λ _. ⌜ now (bytes .exit) ≡ putWord (now (bytes .entry)) i v ⌝ }
 {
     put_byte(bytes, i, (v % 256) as u8);
@@ -25,42 +26,31 @@ fn put_word(bytes: &mut [u8], i: usize, v: u16)
 }
 
 fn put_long(bytes: &mut [u8], i: usize, v: u32)
-    requires { ⌜ i < 65000 ⌝ }
+    requires { ⌜ i < 69000 ⌝ }
     ensures { λ _. ⌜ now (bytes .exit) ≡ putLong (now (bytes .entry)) i v ⌝ }
 {
     put_word(bytes, i, (v % 65536) as u16);
     put_word(bytes, i + 2, (v / 65536) as u16);
 }
 
-// The meter's entry, first in its area.
-pub fn put_meter(area: &mut [u8], dials: u8, capacity: u32)
-    ensures { λ _. ⌜ now (area .exit) ≡ putMeter (now (area .entry)) dials capacity ⌝ }
+// The head of an area.
+pub fn put_head(area: &mut [u8], head: Head)
+    ensures { λ _. ⌜ now (area .exit) ≡ putHead (now (area .entry)) head ⌝ }
 {
     put_byte(area, 0, Kind::METER);
-    put_byte(area, 1, dials);
-    put_long(area, 2, capacity);
+    put_byte(area, 1, head.dials);
+    put_long(area, 2, head.capacity);
 }
 
-// An entry after k others.
-pub fn put_entry(area: &mut [u8], k: u8, e: Entry)
-    ensures { λ _. ⌜ now (area .exit) ≡ putEntry (now (area .entry)) (entryStart k) e ⌝ }
+// An entry, at a byte of an area.
+pub fn put_entry(area: &mut [u8], offset: u16, e: Entry)
+    ensures { λ _. ⌜ now (area .exit) ≡ putEntry (now (area .entry)) offset e ⌝ }
 {
-    let at = Layout::METER_BYTES + Layout::ENTRY_BYTES * (k as usize);
+    let at = offset as usize;
     put_byte(area, at, e.kind);
     put_word(area, at + 1, e.day);
     put_long(area, at + 3, e.value);
     put_byte(area, at + 7, e.letter);
     put_byte(area, at + 8, e.indicator);
     put_byte(area, at + 9, e.flag);
-}
-
-// Another kind for the entry after k others.
-pub fn put_kind(area: &mut [u8], k: u8, kind: u8)
-    ensures { λ _. ⌜ now (area .exit) ≡ set (now (area .entry)) (entryStart k) kind ⌝ }
-{
-    put_byte(
-        area,
-        Layout::METER_BYTES + Layout::ENTRY_BYTES * (k as usize),
-        kind,
-    );
 }

@@ -19,6 +19,7 @@ returns : tie.Need-returns
 unfolding isRead
 returns c =
     let k = c .before in
+    λ head l.
     rw (
       ← k .before .before .is-standing .ensures,
       ← k .before .is-withdrawn .ensures,
@@ -26,19 +27,20 @@ returns c =
       not-true (k .before .before .is-standing .result || (k .before .is-withdrawn .result || k .is-held .result)) (c .if1 .taken),
     )
 
-is-body-requires : tie.Need-is-body-requires
-is-body-requires c κs = search needs
+is-in-range-requires : tie.Need-is-in-range-requires
+is-in-range-requires c κs = search needs
 
 returns-2 : tie.Need-returns-2
 unfolding isRead
 returns-2 c =
     let k = c .before .before in
+    λ head l.
     rw (
       ← k .before .before .is-standing .ensures,
       ← k .before .is-withdrawn .ensures,
       ← k .is-held .ensures,
       not-false (k .before .before .is-standing .result || (k .before .is-withdrawn .result || k .is-held .result)) (c .before .if1 .left),
-      c .is-body .ensures,
+      c .is-in-range .ensures head l,
     )
 
 pub is-read-spec : {M : Type 1} → statement M
@@ -49,5 +51,5 @@ is-read-spec =
     is-withdrawn-requires
     is-held-requires
     returns
-    is-body-requires
+    is-in-range-requires
     returns-2)

@@ -1,21 +1,21 @@
 -- Each test is the definition's.
 use mathlib.Core.Bool.{and-false}
 use borrow.Author.Tests.{not-true, not-false}
-use Rattle.journal.specs.Loops.{followsBy}
+use Rattle.journal.specs.Inner.Loops.{followsBy}
 use borrow.Author.Needs.{needs}
 use Rattle.journal.proofs.order.may_follow.Statement.{statement}
 use Rattle.journal.proofs.order.may_follow.Tie as tie
 
 returns : tie.Need-returns
 unfolding followsBy
-returns c = rw (c .if1 .taken, and-false)
+returns c = λ head l. rw (c .if1 .taken, and-false)
 
 is-read-requires : tie.Need-is-read-requires
 is-read-requires c κs = search needs
 
 returns-2 : tie.Need-returns-2
 unfolding followsBy
-returns-2 c = rw (← c .before .is-read .ensures, not-true (c .before .is-read .result) (c .if2 .taken))
+returns-2 c = λ head l. rw (← c .before .is-read .ensures head l, not-true (c .before .is-read .result) (c .if2 .taken))
 
 is-final-requires : tie.Need-is-final-requires
 is-final-requires c κs = search needs
@@ -31,14 +31,15 @@ unfolding followsBy
 returns-3 c =
     let s = c .before .before in
     let read = s .before .before in
+    λ head l.
     rw (
-      ← read .before .is-read .ensures,
+      ← read .before .is-read .ensures head l,
       not-false (read .before .is-read .result) (read .if2 .left),
       read .before .before .if1 .left,
       ← s .is-standing .ensures,
       c .before .if3 .taken,
       s .before .is-final .ensures,
-      c .may-stand .ensures,
+      c .may-stand .ensures head,
     )
 
 is-held-requires : tie.Need-is-held-requires
@@ -53,8 +54,9 @@ returns-4 c =
     let held = c .before .before in
     let s = held .before .before in
     let read = s .before .before in
+    λ head l.
     rw (
-      ← read .before .is-read .ensures,
+      ← read .before .is-read .ensures head l,
       not-false (read .before .is-read .result) (read .if2 .left),
       read .before .before .if1 .left,
       ← s .is-standing .ensures,

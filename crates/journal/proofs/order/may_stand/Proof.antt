@@ -1,5 +1,6 @@
 -- Whether a read stands decides which tests are made, as in the definition.
-use Rattle.journal.specs.Loops.{standsBy}
+use Rattle.journal.specs.Sound.{opens}
+use Rattle.journal.specs.Inner.Loops.{standsBy}
 use borrow.Author.Needs.{needs}
 use Rattle.journal.proofs.order.may_stand.Statement.{statement}
 use Rattle.journal.proofs.order.may_stand.Tie as tie
@@ -9,14 +10,14 @@ is-opening-requires c κs = search needs
 
 returns : tie.Need-returns
 unfolding standsBy
-returns c = rw (c .before .before .if1 .taken, c .is-opening .ensures)
+returns c = λ head. rw (c .before .before .if1 .taken, c .is-opening .ensures)
 
 is-opening-requires-2 : tie.Need-is-opening-requires-2
 is-opening-requires-2 c κs = search needs
 
 returns-2 : tie.Need-returns-2
-unfolding standsBy
-returns-2 c = rw (c .before .before .if1 .left, c .before .is-opening2 .ensures)
+unfolding standsBy opens
+returns-2 c = λ head. rw (c .before .before .if1 .left, c .before .is-opening2 .ensures)
 
 pub may-stand-spec : {M : Type 1} → statement M
 may-stand-spec = tie.close (tie.spec is-opening-requires returns is-opening-requires-2 returns-2)

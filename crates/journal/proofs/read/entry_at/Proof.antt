@@ -1,14 +1,11 @@
--- The last of fifty entries ends at byte 506, so every field is within the area, and each is read where the definition has it.
-use borrow.Author.Needs.{needs}
+-- The entry ends within the body, and each field is read where the definition has it.
 use Rattle.register.specs.Entries.{entryAt}
+use borrow.Author.Needs.{needs}
 use Rattle.journal.proofs.read.entry_at.Statement.{statement}
 use Rattle.journal.proofs.read.entry_at.Tie as tie
 
 mul-at : tie.Need-mul-at
 mul-at c = search needs
-
-add-at : tie.Need-add-at
-add-at c = search needs
 
 add-word-at : tie.Need-add-word-at
 add-word-at c = search needs
@@ -22,17 +19,17 @@ add-long-at c = search needs
 long-at-requires : tie.Need-long-at-requires
 long-at-requires c κs = search needs
 
-shared-slice-read-t9 : tie.Need-shared-slice-read-t9
-shared-slice-read-t9 c = search needs
+shared-slice-read-t8 : tie.Need-shared-slice-read-t8
+shared-slice-read-t8 c = search needs
 
 add-t6 : tie.Need-add-t6
 add-t6 c = search needs
 
-shared-slice-read-t11 : tie.Need-shared-slice-read-t11
-shared-slice-read-t11 c = search needs
+shared-slice-read-t10 : tie.Need-shared-slice-read-t10
+shared-slice-read-t10 c = search needs
 
-add-t7 : tie.Need-add-t7
-add-t7 c = search needs
+add-t11 : tie.Need-add-t11
+add-t11 c = search needs
 
 shared-slice-read-t13 : tie.Need-shared-slice-read-t13
 shared-slice-read-t13 c = search needs
@@ -52,15 +49,14 @@ entry-at-spec =
     tie.close
     (tie.spec
     mul-at
-    add-at
     add-word-at
     word-at-requires
     add-long-at
     long-at-requires
-    shared-slice-read-t9
+    shared-slice-read-t8
     add-t6
-    shared-slice-read-t11
-    add-t7
+    shared-slice-read-t10
+    add-t11
     shared-slice-read-t13
     add-t14
     shared-slice-read-t16

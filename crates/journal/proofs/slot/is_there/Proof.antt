@@ -1,5 +1,5 @@
 -- The match on the slot is the definition's.
-use Rattle.journal.specs.Survey.{isThere}
+use Rattle.journal.specs.Journal.{isThere}
 use borrow.Author.Needs.{needs}
 use Rattle.journal.proofs.slot.is_there.Statement.{statement}
 use Rattle.journal.proofs.slot.is_there.Tie as tie

@@ -17,14 +17,14 @@ is-final-requires c κs = search needs
 returns : tie.Need-returns
 returns c =
     let s = c .before .before .before in
-    λ es h.
+    λ head es l h.
     rw (
       order-more,
       ← h,
       stands-unheld _ (sym (s .is-standing .ensures) ∙ c .before .before .if1 .taken),
       ← s .is-standing .ensures,
       c .before .before .if1 .taken,
-      s .before .before .may-follow .ensures,
+      s .before .before .may-follow .ensures head l,
       c .before .is-final .ensures,
     )
 
@@ -34,13 +34,13 @@ is-held-requires c κs = search needs
 returns-2 : tie.Need-returns-2
 returns-2 c =
     let s = c .before .before in
-    λ es h.
+    λ head es l h.
     rw (
       order-more,
       ← h,
       ← s .is-standing .ensures,
       c .before .if1 .left,
-      s .before .before .may-follow .ensures,
+      s .before .before .may-follow .ensures head l,
       c .is-held .ensures,
     )
 

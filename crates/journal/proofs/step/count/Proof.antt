@@ -5,7 +5,7 @@ use mathlib.Core.Logic.{⊎-elim}
 use Prim.Native.Nat.{_+_}
 use borrow.Author.Tests.{eq-eqb, ne-eqb}
 use lib.Dec.{eqb}
-use Rattle.journal.specs.Survey.{isFlagged}
+use Rattle.journal.specs.Journal.{isFlagged}
 use Rattle.journal.proofs.Steps.{counts-more}
 use borrow.Author.Needs.{needs}
 use Rattle.journal.proofs.step.count.Statement.{statement}

@@ -4,7 +4,7 @@ use Prim.Native.Nat.{_-_, _≤_}
 use native.Mathlib.Omega.{arith}
 use borrow.Author.Needs.{needs}
 use Rattle.journal.specs.Journal.{entriesTo}
-use Rattle.journal.specs.Survey.{foundOf}
+use Rattle.journal.specs.Inner.Survey.{foundOf}
 use Rattle.journal.proofs.Entries.{one-more}
 use Rattle.journal.proofs.survey.found_over.Statement.{statement}
 use Rattle.journal.proofs.survey.found_over.Tie as tie

@@ -6,9 +6,9 @@ use native.Mathlib.Omega.{arith}
 use borrow.Author.Needs.{needs}
 use Rattle.terms.specs.Entry.{isStanding}
 use Rattle.journal.specs.declared.survey.Places.{Places}
-use Rattle.journal.specs.Journal.{maxEntries, entriesTo, standing, isKept}
-use Rattle.journal.specs.Survey.{isFlagged, countsOf}
-use Rattle.journal.specs.Loops.{placesOf}
+use Rattle.journal.specs.Journal.{entriesTo, standing, isKept, isFlagged}
+use Rattle.journal.specs.Inner.Survey.{countsOf}
+use Rattle.journal.specs.Inner.Loops.{placesOf}
 use Rattle.journal.proofs.Entries.{one-more, length-entries, those-at-most}
 use Rattle.journal.proofs.survey.places_over.Statement.{statement}
 use Rattle.journal.proofs.survey.places_over.Tie as tie
@@ -20,7 +20,7 @@ abbrev μ-loop : tie.MeasureT-loop
 μ-loop area m places₀ k₀ places k = m - k
 
 -- no count reaches 255
-counts-small : (p : Places) (k : ℕ) (a : List ℕ) → k < maxEntries → p ≡ placesOf (entriesTo k a) → (p .counts .kept < 255) × (p .counts .standing < 255) × (p .counts .flagged < 255)
+counts-small : (p : Places) (k : ℕ) (a : List ℕ) → k < 255 → p ≡ placesOf (entriesTo k a) → (p .counts .kept < 255) × (p .counts .standing < 255) × (p .counts .flagged < 255)
 unfolding placesOf countsOf
 counts-small p k a h e =
     let es = entriesTo k a in
@@ -45,7 +45,7 @@ entry-at-requires c κs = search needs
 
 place-requires : tie.Need-place-requires Inv-loop μ-loop
 place-requires c κs =
-    let small : c .before .before .loop .k < maxEntries = omega arith in
+    let small : c .before .before .loop .k < 255 = omega arith in
     counts-small _ _ _ small (c .before .before .loop .inv .1)
 
 add-k : tie.Need-add-k Inv-loop μ-loop

@@ -4,7 +4,7 @@ use Rattle.journal.proofs.survey.slot_from.Statement.{statement}
 use Rattle.journal.proofs.survey.slot_from.Tie as tie
 
 entry-at-requires : tie.Need-entry-at-requires
-entry-at-requires c κs = search needs
+entry-at-requires c κs = c .before .before .pre (c .if1 .taken)
 
 returns : tie.Need-returns
 returns c = rw (c .before .if1 .taken, c .entry-at .ensures)

@@ -2,7 +2,8 @@
 use mathlib.Core.Path.{refl}
 use Rattle.terms.specs.Entry.{those}
 use Rattle.journal.specs.Sound.{any}
-use Rattle.journal.specs.Survey.{onDay, foundOf}
+use Rattle.journal.specs.Journal.{onDay}
+use Rattle.journal.specs.Inner.Survey.{foundOf}
 use Rattle.journal.proofs.survey.start_found.Statement.{statement}
 use Rattle.journal.proofs.survey.start_found.Tie as tie
 

@@ -1,8 +1,9 @@
 -- Every field as the empty list has it.
 use mathlib.Core.Path.{refl}
 use Rattle.terms.specs.Entry.{those}
-use Rattle.journal.specs.Survey.{firstValue, newestAt, countsOf}
-use Rattle.journal.specs.Loops.{standingAt, placesOf}
+use Rattle.journal.specs.Journal.{firstValue, newestAt}
+use Rattle.journal.specs.Inner.Survey.{countsOf}
+use Rattle.journal.specs.Inner.Loops.{standingAt, placesOf}
 use Rattle.journal.proofs.survey.start_places.Statement.{statement}
 use Rattle.journal.proofs.survey.start_places.Tie as tie
 

@@ -1,4 +1,4 @@
--- An area that does not start with zero is not all zero, and `survey_journal` decides it; one that does has no meter's entry.
+-- An area that does not start with zero is not all zero, and `survey_journal` decides it; one that does has no head.
 use mathlib.Core.Path.{_≡_, refl}
 use mathlib.Core.Bool.{false}
 use mathlib.Core.List.{List, [], _∷_}
@@ -6,8 +6,8 @@ use Prim.Native.Nat.{ℕ}
 use borrow.Author.Tests.{ne-eqb}
 use lib.ListN.{getD}
 use Rattle.journal.specs.Journal.{allZero}
-use Rattle.journal.specs.Sound.{isMeter, isSound}
-use Rattle.journal.specs.Survey.{surveyed}
+use Rattle.journal.specs.Sound.{isHead, isSound}
+use Rattle.journal.specs.Inner.Survey.{surveyed}
 use borrow.Author.Needs.{needs}
 use Rattle.journal.proofs.survey.survey_area.Statement.{statement}
 use Rattle.journal.proofs.survey.survey_area.Tie as tie
@@ -18,7 +18,7 @@ first-not-zero [] h = absurd (h refl)
 first-not-zero (b ∷ bs) h = rw (ne-eqb b 0 h)
 
 first-zero : (area : List ℕ) → getD area 0 0 ≡ 0 → isSound area ≡ false
-unfolding isSound isMeter
+unfolding isSound isHead
 first-zero area h = rw h
 
 returns : tie.Need-returns

@@ -1,184 +1,93 @@
--- The area is not all zero, so it is sound or damaged, and each test decides one part of the definition of sound.
-use mathlib.Core.Path.{_≡_, refl, ap, sym, _∙_}
-use mathlib.Core.Bool.{Bool, true, false, _&&_, cond}
+-- 512 bytes that are not all zero are sound where their head is one and their body is sound after it.
+use mathlib.Core.Path.{_≡_, sym, _∙_}
+use mathlib.Core.Bool.{true, false}
 use mathlib.Core.List.{List}
 use Prim.Native.Nat.{ℕ, _≤_}
 use native.Mathlib.Omega.{arith}
 use borrow.Author.Tests.{not-true, not-false}
 use borrow.Author.Needs.{needs}
-use lib.ListN.{length, drop}
-use Rattle.arithmetic.specs.Powers.{tenTo}
+use lib.ListN.{length}
 use Rattle.register.specs.Area.{areaBytes}
-use Rattle.register.specs.Entries.{dialsOf, capacityOf, entryStart}
-use Rattle.terms.specs.declared.entry.Slot.{Slot}
-use Rattle.terms.specs.declared.entry.Recent.{Recent}
-use Rattle.terms.specs.Entry.{recentOf}
-use Rattle.journal.specs.declared.survey.Found.{Found}
-use Rattle.journal.specs.declared.survey.Order.{Order}
-use Rattle.journal.specs.declared.survey.Places.{Places}
-use Rattle.journal.specs.declared.survey.Survey.{Survey}
-use Rattle.journal.specs.declared.survey.Surveyed.{Surveyed}
-use Rattle.journal.specs.declared.survey.Surveyed.the-variants.{Damaged, Sound}
-use Rattle.journal.specs.Journal.{maxEntries, allZero, entriesTo, entryCount, journalOf, standing, withdrawn, heldOf}
-use Rattle.journal.specs.Sound.{isMeter, areApart, areSound, isSound}
-use Rattle.journal.specs.Survey.{foundOf, surveyOf, surveyed}
-use Rattle.journal.specs.Loops.{orderOf, placesOf}
-use Rattle.journal.proofs.Entries.{length-entries, count-at-most}
+use Rattle.register.specs.Head.{headOf, headBytes, bodyOf}
+use Rattle.register.proofs.Body.{body-length, body-lent, lent-room}
+use Rattle.journal.specs.declared.survey.Surveyed.the-variants.{Damaged}
+use Rattle.journal.specs.Journal.{allZero, entryCount, journalOf}
+use Rattle.journal.specs.Sound.{isHead, isSound}
+use Rattle.journal.specs.Inner.Survey.{surveyed, surveyedBody}
 use Rattle.journal.proofs.survey.survey_journal.Statement.{statement}
 use Rattle.journal.proofs.survey.survey_journal.Tie as tie
 
-module _ (day value : ℕ) (a : List ℕ) where
-  abbrev verdict : Bool → Surveyed
-  verdict sound = cond sound (Sound (surveyOf day value (journalOf a))) Damaged
-
-  -- 512 bytes that are not all zero, by the three tests
-  judged : {first ends parts : Bool} → (length a ≡ areaBytes) × (allZero a ≡ false) → isMeter a ≡ first → allZero (drop (entryStart (entryCount a)) a) ≡ ends → areSound (tenTo (journalOf a .dials)) (journalOf a .entries) ≡ parts → surveyed day value a ≡ verdict (first && (ends && parts))
+module _ (day value : ℕ) (a : List ℕ) (known : (length a ≡ areaBytes) × (allZero a ≡ false)) where
+  headless : isHead a ≡ false → surveyed day value a ≡ Damaged
   unfolding surveyed isSound
-  judged known first ends parts = rw (known .0, known .1, first, ends, parts)
+  headless h = rw (known .0, known .1, h)
 
-  -- what the loops gather
-  module _ {m limit : ℕ} {o : Order} (count : m ≡ entryCount a) (power : limit ≡ tenTo (dialsOf a)) (order : o ≡ orderOf limit (entriesTo m a)) where
-    parts-are : {apart : Bool} → apart ≡ areApart (standing (entriesTo m a)) (withdrawn (entriesTo m a)) → areSound (tenTo (journalOf a .dials)) (journalOf a .entries) ≡ o .sound && apart
-    unfolding orderOf areSound journalOf
-    parts-are apart = rw (order, apart, power, count)
+  by-body : isHead a ≡ true → surveyed day value a ≡ surveyedBody day value (headOf a) (bodyOf a)
+  unfolding surveyed isSound surveyedBody entryCount journalOf
+  by-body h = rw (known .0, known .1, h)
 
-    gathered : {capacity : ℕ} {p : Places} {recent : Recent} {held : Slot} {found : Found} → capacity ≡ capacityOf a → p ≡ placesOf (entriesTo m a) → recent ≡ recentOf (standing (entriesTo m a)) → held ≡ heldOf (entriesTo m a) → found ≡ foundOf day value (entriesTo m a) → _≡_ {A = Survey} (record { dials = dialsOf a; capacity = capacity; entries = m; counts = p .counts; recent = recent; held = held; ended = o .ended; found = found }) (surveyOf day value (journalOf a))
-    unfolding orderOf placesOf surveyOf journalOf
-    gathered capacity places recent held found = rw (order, capacity, places, recent, held, found, count, length-entries)
-
-few : (c : tie.After-entry-count) → (length (c .before .before .before .before .args .area .now) ≡ areaBytes) × (c .entry-count .result ≤ maxEntries)
-few c = (c .before .before .before .before .pre .0, rw (c .entry-count .ensures) (count-at-most _))
-
-first-is : (c : tie.Else1) → isMeter (c .before .before .before .args .area .now) ≡ true
-first-is c = sym (c .before .is-meter .ensures) ∙ not-false _ (c .if1 .left)
-
-module _ (c : tie.After-is-zero-from) where
+-- where the body starts
+module _ (c : tie.After-head-bytes) where
   abbrev area : List ℕ
   area = c .before .before .before .before .before .args .area .now
 
-  ends-are : allZero (drop (entryStart (entryCount area)) area) ≡ c .is-zero-from .result
-  ends-are = rw (c .before .entry-count .ensures) at (sym (c .is-zero-from .ensures))
+  starts : c .head-bytes .result ≡ headBytes (headOf area)
+  starts = rw (c .before .before .before .head-at .ensures) at (c .head-bytes .ensures)
 
-module _ (c : tie.After-is-apart) where
-  abbrev start : tie.Start
-  start = c .before .before .before .before .before .before .before .before .before .before
+  room : c .head-bytes .result ≤ length area
+  room = omega (arith, starts, body-length area (c .before .before .before .before .before .pre .0))
 
-  by-parts : {sound : Bool} → c .before .order-over .result .sound && c .is-apart .result ≡ sound → surveyed (start .args .day) (start .args .value) (start .args .area .now) ≡ verdict (start .args .day) (start .args .value) (start .args .area .now) sound
-  by-parts e =
-      let k = c .before .before .before .before in
-      judged
-      _
-      _
-      _
-      (start .pre)
-      (first-is (k .before .before .before))
-      (ends-are (k .before) ∙ not-false _ (k .if2 .left))
-      (parts-are (start .args .day) (start .args .value) _ (k .before .before .entry-count .ensures) (c .before .before .power .ensures) (c .before .order-over .ensures) (c .is-apart .ensures) ∙ e)
+head-at-requires : tie.Need-head-at-requires
+head-at-requires c κs = search needs
 
-is-meter-requires : tie.Need-is-meter-requires
-is-meter-requires c κs = search needs
+is-head-requires : tie.Need-is-head-requires
+is-head-requires c κs = search needs
 
 returns : tie.Need-returns
 returns c =
-    let first = sym (c .before .is-meter .ensures) ∙ not-true _ (c .if1 .taken) in
-    sym (judged _ _ _ (c .before .before .before .pre) first refl refl)
+    let start = c .before .before .before .before in
+    sym (headless _ _ _ (start .pre) (sym (c .before .is-head .ensures) ∙ not-true _ (c .if1 .taken)))
 
-entry-count-requires : tie.Need-entry-count-requires
-entry-count-requires c κs = search needs
+head-bytes-requires : tie.Need-head-bytes-requires
+head-bytes-requires c κs = search needs
 
-cast-end : tie.Need-cast-end
-cast-end c = search needs
+sub-survey-body : tie.Need-sub-survey-body
+sub-survey-body c = room c
 
-mul-end : tie.Need-mul-end
-mul-end c = search needs
+part-survey-body-start : tie.Need-part-survey-body-start
+part-survey-body-start c = room c
 
-add-end : tie.Need-add-end
-add-end c = search needs
+part-survey-body-end : tie.Need-part-survey-body-end
+part-survey-body-end c = search needs
 
-is-zero-from-requires : tie.Need-is-zero-from-requires
-is-zero-from-requires c κs = search needs
+survey-body-requires : tie.Need-survey-body-requires
+survey-body-requires c κs =
+    let h = c .before in
+    let head = h .before .before .before in
+    lent-room (area h) (head .head-at .result) (h .head-bytes .result) (head .head-at .ensures) (starts h) (head .before .before .pre .0)
 
 returns-2 : tie.Need-returns-2
 returns-2 c =
-    let k = c .before .before in
-    let ends = ends-are (c .before) ∙ not-true _ (c .if2 .taken) in
-    sym (judged _ _ _ (k .before .before .before .before .pre) (first-is (k .before)) ends refl)
-
-shared-slice-read-dials : tie.Need-shared-slice-read-dials
-shared-slice-read-dials c = search needs
-
-power-requires : tie.Need-power-requires
-power-requires c κs = search needs
-
-order-over-requires : tie.Need-order-over-requires
-order-over-requires c κs = few (c .before .before .before .before)
-
-is-apart-requires : tie.Need-is-apart-requires
-is-apart-requires c κs = few (c .before .before .before .before .before)
-
-returns-3 : tie.Need-returns-3
-returns-3 c = sym (by-parts (c .before .before) (not-true _ (c .if3 .taken)))
-
-places-over-requires : tie.Need-places-over-requires
-places-over-requires c κs = few (c .before .before .before .before .before .before .before .before)
-
-recent-from-requires : tie.Need-recent-from-requires
-recent-from-requires c κs =
-    let known = few (c .before .before .before .before .before .before .before .before .before .before) in
-    (known .0, known .1, c .before .places-over .ensures)
-
-held-over-requires : tie.Need-held-over-requires
-held-over-requires c κs = few (c .before .before .before .before .before .before .before .before .before .before .before)
-
-found-over-requires : tie.Need-found-over-requires
-found-over-requires c κs = few (c .before .before .before .before .before .before .before .before .before .before .before .before)
-
-long-at-requires : tie.Need-long-at-requires
-long-at-requires c κs = omega (arith, few (c .before .before .before .before .before .before .before .before .before .before .before .before .before) .0)
-
-returns-4 : tie.Need-returns-4
-returns-4 c =
-    let found = c .before in
-    let recent = found .before .before in
-    let places = recent .before .before in
-    let e = places .before in
-    let d = e .before .before in
-    let k = d .before .before .before .before .before .before in
-    let survey =
-    gathered
-    _
-    _
-    _
-    (k .entry-count .ensures)
-    (d .before .before .power .ensures)
-    (d .before .order-over .ensures)
-    (c .long-at .ensures)
-    (places .places-over .ensures)
-    (recent .recent-from .ensures)
-    (found .before .held-over .ensures)
-    (found .found-over .ensures) in
-    ap Sound survey ∙ sym (by-parts d (not-false _ (e .if3 .left)))
+    let h = c .before .before in
+    let head = h .before .before in
+    let start = head .before .before .before in
+    rw (
+      by-body _ _ _ (start .pre) (sym (head .is-head .ensures) ∙ not-false _ (h .before .if1 .left)),
+      ← body-lent (area h) (h .head-bytes .result) (starts h),
+      ← head .before .head-at .ensures,
+    )
+    (c .survey-body .ensures)
 
 pub survey-journal-spec : {M : Type 1} → statement M
 survey-journal-spec =
     tie.close
     (tie.spec
-    is-meter-requires
+    head-at-requires
+    is-head-requires
     returns
-    entry-count-requires
-    cast-end
-    mul-end
-    add-end
-    is-zero-from-requires
-    returns-2
-    shared-slice-read-dials
-    power-requires
-    order-over-requires
-    is-apart-requires
-    returns-3
-    places-over-requires
-    recent-from-requires
-    held-over-requires
-    found-over-requires
-    long-at-requires
-    returns-4)
+    head-bytes-requires
+    sub-survey-body
+    part-survey-body-start
+    part-survey-body-end
+    survey-body-requires
+    returns-2)

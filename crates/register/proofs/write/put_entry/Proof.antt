@@ -4,12 +4,6 @@ use borrow.Author.Needs.{needs}
 use Rattle.register.proofs.write.put_entry.Statement.{statement}
 use Rattle.register.proofs.write.put_entry.Tie as tie
 
-mul-at : tie.Need-mul-at
-mul-at c = search needs
-
-add-at : tie.Need-add-at
-add-at c = search needs
-
 put-byte-requires : tie.Need-put-byte-requires
 put-byte-requires c κs = search needs
 
@@ -54,8 +48,6 @@ pub put-entry-spec : {M : Type 1} → statement M
 put-entry-spec =
     tie.close
     (tie.spec
-    mul-at
-    add-at
     put-byte-requires
     add-put-word
     put-word-requires

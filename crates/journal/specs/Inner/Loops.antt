@@ -9,23 +9,23 @@ use Rattle.terms.specs.declared.entry.Slot.{Slot}
 use Rattle.terms.specs.declared.entry.Slot.the-variants.{Read, Empty}
 use Rattle.terms.specs.Letter.{isOpening, isHoldable}
 use Rattle.terms.specs.Entry.{isStanding, isHeld, slotAt}
+use Rattle.register.specs.declared.head.Head.{Head}
 use Rattle.journal.specs.declared.survey.Order.{Order}
 use Rattle.journal.specs.declared.survey.Places.{Places}
-use Rattle.journal.specs.Journal.{standing, heldOf}
-use Rattle.journal.specs.Sound.{any, isFinalRead, isRead, areInOrder}
-use Rattle.journal.specs.Survey.{countsOf, isThere}
+use Rattle.journal.specs.Journal.{standing, heldOf, isThere}
+use Rattle.journal.specs.Sound.{any, isFinalRead, isRead, opens, areInOrder}
+use Rattle.journal.specs.Inner.Survey.{countsOf}
 
 -- ---- whether an entry may follow those before it, by numbers: whether a read stands and the day of the last one, whether the newest entry
 -- is held, and whether an F stands
-unfoldable pub standsBy : Entry → Bool → ℕ → Bool
-standsBy e stands last =
-    cond stands (ltb last (e .day) && not (isOpening (e .letter))) (isOpening (e .letter) && eqb (e .flag) 0)
+unfoldable pub standsBy : Head → Entry → Bool → ℕ → Bool
+standsBy head e stands last = cond stands (ltb last (e .day) && not (isOpening (e .letter))) (opens head e)
 
-unfoldable pub followsBy : ℕ → Entry → Bool → ℕ → Bool → Bool → Bool
-followsBy limit e stands last held ended =
-    (isRead limit e && not held)
+unfoldable pub followsBy : Head → Entry → Bool → ℕ → Bool → Bool → Bool
+followsBy head e stands last held ended =
+    (isRead head e && not held)
     && cond (isStanding e)
-    (standsBy e stands last && not (isFinalRead e && ended))
+    (standsBy head e stands last && not (isFinalRead e && ended))
     (not (isHeld e) || (isHoldable (e .letter) && ((stands && ltb last (e .day)) && not (isFinalRead e && ended))))
 
 -- the day of a read, and 0 where there is none
@@ -33,10 +33,10 @@ unfoldable pub dayOf : Slot → ℕ
 dayOf (Read e) = e .day
 dayOf Empty = 0
 
-unfoldable pub orderOf : ℕ → List Entry → Order
-orderOf limit es =
+unfoldable pub orderOf : Head → List Entry → Order
+orderOf head es =
     record {
-      sound = areInOrder limit es;
+      sound = areInOrder head es;
       stands = isThere (slotAt (standing es) 0);
       day = dayOf (slotAt (standing es) 0);
       held = isThere (heldOf es);

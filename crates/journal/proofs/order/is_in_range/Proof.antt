@@ -1,30 +1,32 @@
 -- Each test that fails decides the definition, and what is left is its last three tests.
 use borrow.Author.Tests.{eq-eqb, ne-eqb, le-ltb, lt-ltb, not-true, not-false}
-use Rattle.journal.specs.Sound.{isBody}
+use Rattle.journal.specs.Sound.{holds, takes, isInRange}
 use borrow.Author.Needs.{needs}
-use Rattle.journal.proofs.order.is_body.Statement.{statement}
-use Rattle.journal.proofs.order.is_body.Tie as tie
+use Rattle.journal.proofs.order.is_in_range.Statement.{statement}
+use Rattle.journal.proofs.order.is_in_range.Tie as tie
 
 returns : tie.Need-returns
-unfolding isBody
-returns c = rw (eq-eqb _ _ (c .if1 .taken))
+unfolding isInRange holds takes
+returns c = λ head l. rw (eq-eqb _ _ (c .if1 .taken))
 
 cast-value : tie.Need-cast-value
 cast-value c = search needs
 
 returns-2 : tie.Need-returns-2
-unfolding isBody
-returns-2 c = rw (ne-eqb _ _ (c .before .before .if1 .left), le-ltb _ _ (c .if2 .taken))
+unfolding isInRange holds takes
+returns-2 c = λ head l. rw (ne-eqb _ _ (c .before .before .if1 .left), ← l, le-ltb _ _ (c .if2 .taken))
 
 is-known-requires : tie.Need-is-known-requires
 is-known-requires c κs = search needs
 
 returns-3 : tie.Need-returns-3
-unfolding isBody
+unfolding isInRange holds takes
 returns-3 c =
     let small = c .before .before in
+    λ head l.
     rw (
       ne-eqb _ _ (small .before .before .if1 .left),
+      ← l,
       lt-ltb _ _ (small .if2 .left),
       ← c .before .is-known .ensures,
       not-true (c .before .is-known .result) (c .if3 .taken),
@@ -34,20 +36,22 @@ is-opening-requires : tie.Need-is-opening-requires
 is-opening-requires c κs = search needs
 
 returns-4 : tie.Need-returns-4
-unfolding isBody
+unfolding isInRange holds takes
 returns-4 c =
     let known = c .before .before .before .before in
     let small = known .before .before in
+    λ head l.
     rw (
       ne-eqb _ _ (small .before .before .if1 .left),
+      ← l,
       lt-ltb _ _ (small .if2 .left),
       ← known .before .is-known .ensures,
       not-false (known .before .is-known .result) (known .if3 .left),
       c .before .is-opening .ensures,
     )
 
-pub is-body-spec : {M : Type 1} → statement M
-is-body-spec =
+pub is-in-range-spec : {M : Type 1} → statement M
+is-in-range-spec =
     tie.close
     (tie.spec
     returns

@@ -1,8 +1,8 @@
 -- The stores are the definition's, in its order.
-use Rattle.register.specs.Entries.{putMeter}
+use Rattle.register.specs.Head.{putHead}
 use borrow.Author.Needs.{needs}
-use Rattle.register.proofs.write.put_meter.Statement.{statement}
-use Rattle.register.proofs.write.put_meter.Tie as tie
+use Rattle.register.proofs.write.put_head.Statement.{statement}
+use Rattle.register.proofs.write.put_head.Tie as tie
 
 put-byte-requires : tie.Need-put-byte-requires
 put-byte-requires c κs = search needs
@@ -17,10 +17,10 @@ same-length : tie.Need-same-length
 same-length c = search needs
 
 returns : tie.Need-returns
-unfolding putMeter
+unfolding putHead
 returns c = cc
 
-pub put-meter-spec : {M : Type 1} → statement M
-put-meter-spec =
+pub put-head-spec : {M : Type 1} → statement M
+put-head-spec =
     tie.close
     (tie.spec put-byte-requires put-byte-requires-2 put-long-requires same-length returns)

@@ -1,0 +1,69 @@
+-- What the loops over an area gather for the calls: each field as the journal's entries have it.
+use mathlib.Core.Bool.{not, _&&_, cond}
+use mathlib.Core.List.{List}
+use Prim.Native.Nat.{ℕ}
+use lib.Dec.{eqb}
+use lib.ListN.{length, drop}
+use Rattle.terms.specs.declared.entry.Entry.{Entry}
+use Rattle.terms.specs.Entry.{those, recentOf}
+use Rattle.register.specs.Area.{areaBytes}
+use Rattle.register.specs.declared.head.Head.{Head}
+use Rattle.register.specs.Entries.{entryStart}
+use Rattle.register.specs.Head.{mostEntries}
+use Rattle.journal.specs.declared.survey.Counts.{Counts}
+use Rattle.journal.specs.declared.survey.Found.{Found}
+use Rattle.journal.specs.declared.survey.Survey.{Survey}
+use Rattle.journal.specs.declared.survey.Surveyed.{Surveyed}
+use Rattle.journal.specs.declared.survey.Surveyed.the-variants.{Zero, Damaged, Sound}
+use Rattle.journal.specs.Journal.{Journal, journalOf, allZero, entriesTo, countFrom, standing, withdrawn, kept, heldOf, onDay, isFlagged, firstValue, newestAt}
+use Rattle.journal.specs.Sound.{isSound, areSound, any, hasRead, isFinalRead}
+
+-- ---- the counts
+unfoldable pub countsOf : List Entry → Counts
+countsOf es =
+    record {
+      kept = kept es;
+      standing = length (standing es);
+      flagged = length (those isFlagged (standing es));
+      first = firstValue (standing es);
+      newest = newestAt es;
+    }
+
+-- ---- a day and a value that a call names
+unfoldable pub foundOf : ℕ → ℕ → List Entry → Found
+foundOf day value es =
+    record {
+      sameday = onDay day (standing es);
+      standing = any (hasRead day value) (standing es);
+      withdrawn = any (hasRead day value) (withdrawn es);
+    }
+
+-- ---- what is known of a whole journal
+unfoldable pub surveyOf : ℕ → ℕ → Journal → Survey
+surveyOf day value j =
+    record {
+      head = j .head;
+      entries = length (j .entries);
+      counts = countsOf (j .entries);
+      recent = recentOf (standing (j .entries));
+      held = heldOf (j .entries);
+      ended = any isFinalRead (standing (j .entries));
+      found = foundOf day value (j .entries);
+    }
+
+-- an area is all zero, sound or damaged; what is lent as one and is not 512 bytes long is no journal
+unfoldable pub surveyed : ℕ → ℕ → List ℕ → Surveyed
+surveyed day value area =
+    cond (not (eqb (length area) areaBytes))
+    Damaged
+    (cond (allZero area)
+    Zero
+    (cond (isSound area) (Sound (surveyOf day value (journalOf area))) Damaged))
+
+-- a body that follows a head
+unfoldable pub surveyedBody : ℕ → ℕ → Head → List ℕ → Surveyed
+surveyedBody day value head body =
+    let count : ℕ = countFrom (mostEntries head) 0 body in
+    cond (allZero (drop (entryStart count) body) && areSound head (entriesTo count body))
+    (Sound (surveyOf day value (record { head = head; entries = entriesTo count body })))
+    Damaged

@@ -1,0 +1,12 @@
+-- The definition's number.
+use Rattle.register.specs.Head.{mostEntries}
+use borrow.Author.Needs.{needs}
+use Rattle.register.proofs.head.most_entries.Statement.{statement}
+use Rattle.register.proofs.head.most_entries.Tie as tie
+
+returns : tie.Need-returns
+unfolding mostEntries
+returns c = search needs
+
+pub most-entries-spec : {M : Type 1} → statement M
+most-entries-spec = tie.close (tie.spec returns)
