@@ -4,10 +4,23 @@ use terms::answer::Report;
 use terms::submission::Submission;
 
 pub enum Call {
-    Enrol { place: u8, dials: u8, capacity: u32 },
-    Submit { place: u8, read: Submission },
-    Withdraw { place: u8, day: u16, value: u32 },
-    Ask { place: u8 },
+    Enrol {
+        place: u16,
+        dials: u8,
+        capacity: u32,
+    },
+    Submit {
+        place: u16,
+        read: Submission,
+    },
+    Withdraw {
+        place: u16,
+        day: u16,
+        value: u32,
+    },
+    Ask {
+        place: u16,
+    },
 }
 
 pub enum Reply {

@@ -27,7 +27,7 @@ fn check_enrolment(area: &[u8], dials: u8, capacity: u32) -> u8
     Number::ACCEPTED
 }
 
-pub fn enrol(register: &mut [u8], place: u8, dials: u8, capacity: u32) -> Answer
+pub fn enrol(register: &mut [u8], place: u16, dials: u8, capacity: u32) -> Answer
     ensures { λ r. ⌜ done (Reply.Answered r) (now (register .exit)) ≡ step (Call.Enrol place dials capacity) (now (register .entry)) ⌝ }
 {
     let unplaced = check_place(register, place);

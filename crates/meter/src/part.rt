@@ -8,7 +8,7 @@ use register::area::Layout;
 use terms::number::Number;
 
 // How long the part is: from the area's start to the last entry's end, and 0 where report refuses.
-pub fn journal_length(register: &[u8], place: u8) -> usize
+pub fn journal_length(register: &[u8], place: u16) -> usize
     ensures { λ r. ⌜ r ≡ journalLength place (now (register .entry)) ⌝ }
 {
     if check_place(register, place) != Number::ACCEPTED {
@@ -23,7 +23,7 @@ pub fn journal_length(register: &[u8], place: u8) -> usize
     }
 }
 
-pub fn journal(register: &[u8], place: u8) -> &[u8]
+pub fn journal(register: &[u8], place: u16) -> &[u8]
     ensures { λ r. ⌜ now r ≡ journalPart place (now (register .entry)) ⌝ }
 {
     let size = journal_length(register, place);

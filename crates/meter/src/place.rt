@@ -13,14 +13,14 @@ pub fn is_misfit(register: &[u8]) -> bool
 }
 
 // The place is past the last area.
-pub fn is_no_place(place: u8) -> bool
+pub fn is_no_place(place: u16) -> bool
     ensures { λ r. ⌜ r ≡ isNoPlace place ⌝ }
 {
     Layout::AREAS <= place
 }
 
 // 2, 3 or 0: whether the register has an area for the place.
-pub fn check_place(register: &[u8], place: u8) -> u8
+pub fn check_place(register: &[u8], place: u16) -> u8
     ensures { λ r. ⌜ r ≡ placeNumber place (now (register .entry)) ⌝ }
 {
     if is_misfit(register) {

@@ -43,15 +43,15 @@ fn report_area(area: &[u8]) -> Report
             let counts = v.counts;
             Report {
                 number: Number::ACCEPTED,
-                standing: counts.standing,
-                flagged: counts.flagged,
+                standing: counts.standing as u16,
+                flagged: counts.flagged as u16,
                 total: total(v),
             }
         }
     }
 }
 
-pub fn report(register: &[u8], place: u8) -> Report
+pub fn report(register: &[u8], place: u16) -> Report
     ensures { λ r. ⌜ done (Reply.Reported r) (now (register .entry)) ≡ step (Call.Ask place) (now (register .entry)) ⌝ }
 {
     let unplaced = check_place(register, place);

@@ -122,7 +122,7 @@ fn mark_withdrawn(area: &mut [u8], newest: u8, kept: u8, held: bool)
     }
 }
 
-pub fn withdraw(register: &mut [u8], place: u8, day: u16, value: u32) -> Answer
+pub fn withdraw(register: &mut [u8], place: u16, day: u16, value: u32) -> Answer
     ensures { λ r. ⌜ done (Reply.Answered r) (now (register .exit)) ≡ step (Call.Withdraw place day value) (now (register .entry)) ⌝ }
 {
     let unplaced = check_place(register, place);

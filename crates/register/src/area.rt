@@ -2,7 +2,7 @@
 pub struct Layout;
 
 impl Layout {
-    pub const AREAS: u8 = 64;
+    pub const AREAS: u16 = 64;
 
     pub const AREA_BYTES: usize = 512;
 

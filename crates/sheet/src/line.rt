@@ -9,7 +9,7 @@ use terms::answer::Answer;
 use terms::answer::Report;
 
 // A field and the space after it. As with the others below, the answer is where the text ends.
-fn put_field(out: &mut [u8], at: usize, n: u8) -> usize
+fn put_field(out: &mut [u8], at: usize, n: u16) -> usize
     requires { ⌜ Room at (field n) ⌝ }
     ensures { λ r. ⌜ Put (now (out .entry)) at (field n) (now (out .exit)) r ⌝ }
 {
@@ -32,8 +32,8 @@ fn put_answer(out: &mut [u8], at: usize, a: Answer) -> usize
     requires { ⌜ Room at (lineOf (Reply.Answered a)) ⌝ }
     ensures { λ r. ⌜ Put (now (out .entry)) at (lineOf (Reply.Answered a)) (now (out .exit)) r ⌝ }
 {
-    let flag = put_field(out, at, a.number);
-    let advance = put_field(out, flag, a.flag);
+    let flag = put_field(out, at, a.number as u16);
+    let advance = put_field(out, flag, a.flag as u16);
     put_last(out, advance, a.advance)
 }
 
@@ -41,7 +41,7 @@ fn put_report(out: &mut [u8], at: usize, r: Report) -> usize
     requires { ⌜ Room at (lineOf (Reply.Reported r)) ⌝ }
     ensures { λ next. ⌜ Put (now (out .entry)) at (lineOf (Reply.Reported r)) (now (out .exit)) next ⌝ }
 {
-    let standing = put_field(out, at, r.number);
+    let standing = put_field(out, at, r.number as u16);
     let flagged = put_field(out, standing, r.standing);
     let total = put_field(out, flagged, r.flagged);
     put_last(out, total, r.total)

@@ -47,7 +47,7 @@ fn enrol_at(sheet: &[u8], at: usize) -> Next
     if next <= sheet.len() {
         let capacity = long_at(sheet, i + 2);
         let call = Call::Enrol {
-            place: sheet[i],
+            place: sheet[i] as u16,
             dials: sheet[i + 1],
             capacity,
         };
@@ -75,7 +75,7 @@ fn submit_at(sheet: &[u8], at: usize) -> Next
             reread: sheet[i + 11],
         };
         let call = Call::Submit {
-            place: sheet[i],
+            place: sheet[i] as u16,
             read,
         };
         return Next::Found(call, next);
@@ -93,7 +93,7 @@ fn withdraw_at(sheet: &[u8], at: usize) -> Next
         let day = word_at(sheet, i + 1);
         let value = long_at(sheet, i + 3);
         let call = Call::Withdraw {
-            place: sheet[i],
+            place: sheet[i] as u16,
             day,
             value,
         };
@@ -109,7 +109,9 @@ fn report_at(sheet: &[u8], at: usize) -> Next
     let i = at + 1;
     let next = i + Form::REPORT_BODY;
     if next <= sheet.len() {
-        let call = Call::Ask { place: sheet[i] };
+        let call = Call::Ask {
+            place: sheet[i] as u16,
+        };
         return Next::Found(call, next);
     }
     Next::Fault

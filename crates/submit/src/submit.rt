@@ -70,7 +70,7 @@ fn submit_in(area: &mut [u8], s: Submission) -> Answer
 }
 
 // A read of the meter at a place.
-pub fn submit(register: &mut [u8], place: u8, s: Submission) -> Answer
+pub fn submit(register: &mut [u8], place: u16, s: Submission) -> Answer
     ensures { λ r. ⌜ done (Reply.Answered r) (now (register .exit)) ≡ step (Call.Submit place s) (now (register .entry)) ⌝ }
 {
     let number = check_place(register, place);

@@ -12,8 +12,8 @@ pub struct Answer {
 // A report.
 pub struct Report {
     pub number: u8,
-    pub standing: u8,
-    pub flagged: u8,
+    pub standing: u16,
+    pub flagged: u16,
     pub total: i64,
 }
 

@@ -30,6 +30,12 @@ refuse-report-requires-2 c κs = search needs
 enum-known-v : tie.Need-enum-known-v
 enum-known-v c = search needs
 
+cast-t6 : tie.Need-cast-t6
+cast-t6 c = search needs
+
+cast-t7 : tie.Need-cast-t7
+cast-t7 c = search needs
+
 total-requires : tie.Need-total-requires
 total-requires c κs = search needs
 
@@ -48,8 +54,9 @@ returns-2 c =
 returns-3 : tie.Need-returns-3
 unfolding reportIn reportChecks reportOf surveyOf countsOf flaggedOf
 returns-3 c =
-    let d = c .before .before .before .before .before in
-    let sound = sound-number (λ j. []) 0 0 _ (d .before .before .pre) (sym (d .survey-area .ensures) ∙ c .before .before .before .v .given .1) in
+    let found = c .before .before .before .before .before in
+    let d = found .before .before in
+    let sound = sound-number (λ j. []) 0 0 _ (d .before .before .pre) (sym (d .survey-area .ensures) ∙ found .v .given .1) in
     let total = toZ-ofZ w64 _ (sfits-of (c .total .ok)) ∙ c .total .ensures 0 0 _ (sound .0) in
     rw (total, sound .1, sound .0)
 
@@ -63,6 +70,8 @@ report-area-spec =
     enum-told-2
     refuse-report-requires-2
     enum-known-v
+    cast-t6
+    cast-t7
     total-requires
     returns
     returns-2

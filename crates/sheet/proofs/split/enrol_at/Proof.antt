@@ -1,4 +1,6 @@
 -- The body is read field by field where the definition has it, if it is there whole.
+use Prim.Native.Nat.{_+_}
+use native.Mathlib.Omega.{arith}
 use Rattle.sheet.specs.Sheet.{enrolAt}
 use Rattle.sheet.proofs.Bodies.{whole, cut}
 use borrow.Author.Needs.{needs}
@@ -20,11 +22,14 @@ long-at-requires c κs = search needs
 shared-slice-read-t11 : tie.Need-shared-slice-read-t11
 shared-slice-read-t11 c = search needs
 
+cast-t12 : tie.Need-cast-t12
+cast-t12 c = omega (arith, c .shared-slice-known2 .given (c .before .before .before .before .args .at + 1))
+
 add-t9 : tie.Need-add-t9
 add-t9 c = search needs
 
-shared-slice-read-t13 : tie.Need-shared-slice-read-t13
-shared-slice-read-t13 c = search needs
+shared-slice-read-t14 : tie.Need-shared-slice-read-t14
+shared-slice-read-t14 c = search needs
 
 returns : tie.Need-returns
 unfolding enrolAt
@@ -42,7 +47,8 @@ enrol-at-spec =
     add-long-at
     long-at-requires
     shared-slice-read-t11
+    cast-t12
     add-t9
-    shared-slice-read-t13
+    shared-slice-read-t14
     returns
     returns-2)

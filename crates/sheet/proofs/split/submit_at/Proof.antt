@@ -1,4 +1,6 @@
 -- The body is read field by field where the definition has it, if it is there whole.
+use Prim.Native.Nat.{_+_}
+use native.Mathlib.Omega.{arith}
 use Rattle.sheet.specs.Sheet.{submitAt}
 use Rattle.sheet.proofs.Bodies.{whole, cut}
 use borrow.Author.Needs.{needs}
@@ -50,6 +52,9 @@ shared-slice-read-t20 c = search needs
 shared-slice-read-t14-2 : tie.Need-shared-slice-read-t14-2
 shared-slice-read-t14-2 c = search needs
 
+cast-t22 : tie.Need-cast-t22
+cast-t22 c = omega (arith, c .shared-slice-known5 .given (c .before .before .before .before .before .before .before .before .before .args .at + 1))
+
 returns : tie.Need-returns
 unfolding submitAt
 returns c = whole _ _ _ _ (c .before .before .before .before .before .before .before .if1 .taken) (cc)
@@ -76,5 +81,6 @@ submit-at-spec =
     add-t18
     shared-slice-read-t20
     shared-slice-read-t14-2
+    cast-t22
     returns
     returns-2)

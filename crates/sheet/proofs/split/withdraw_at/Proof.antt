@@ -1,4 +1,6 @@
 -- The body is read field by field where the definition has it, if it is there whole.
+use Prim.Native.Nat.{_+_}
+use native.Mathlib.Omega.{arith}
 use Rattle.sheet.specs.Sheet.{withdrawAt}
 use Rattle.sheet.proofs.Bodies.{whole, cut}
 use borrow.Author.Needs.{needs}
@@ -26,6 +28,9 @@ long-at-requires c κs = search needs
 shared-slice-read-t12 : tie.Need-shared-slice-read-t12
 shared-slice-read-t12 c = search needs
 
+cast-t13 : tie.Need-cast-t13
+cast-t13 c = omega (arith, c .shared-slice-known2 .given (c .before .before .before .before .before .args .at + 1))
+
 returns : tie.Need-returns
 unfolding withdrawAt
 returns c = whole _ _ _ _ (c .before .before .before .if1 .taken) (cc)
@@ -44,5 +49,6 @@ withdraw-at-spec =
     add-long-at
     long-at-requires
     shared-slice-read-t12
+    cast-t13
     returns
     returns-2)

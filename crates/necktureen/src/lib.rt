@@ -3,6 +3,7 @@
 ghost use mathlib.Core.Path.{_≡_};
 ghost use Rattle.terms.specs.Answer.{answer, reported};
 ghost use Rattle.calls.specs.Calls.{done, step, journalLength};
+ghost use Rattle.sheet.specs.Play.{Played};
 use calls::call::Call;
 use calls::call::Reply;
 use terms::submission::Submission;
@@ -10,7 +11,7 @@ use terms::submission::Submission;
 #[no_mangle]
 pub extern "C" fn necktureen_enrol(
     register: &mut [u8],
-    place: u8,
+    place: u16,
     dials: u8,
     capacity: u32,
     flag: &mut u8,
@@ -28,7 +29,7 @@ pub extern "C" fn necktureen_enrol(
 #[no_mangle]
 pub extern "C" fn necktureen_submit(
     register: &mut [u8],
-    place: u8,
+    place: u16,
     submitted: u16,
     day: u16,
     value: u32,
@@ -58,7 +59,7 @@ pub extern "C" fn necktureen_submit(
 #[no_mangle]
 pub extern "C" fn necktureen_withdraw(
     register: &mut [u8],
-    place: u8,
+    place: u16,
     day: u16,
     value: u32,
     flag: &mut u8,
@@ -76,9 +77,9 @@ pub extern "C" fn necktureen_withdraw(
 #[no_mangle]
 pub extern "C" fn necktureen_report(
     register: &[u8],
-    place: u8,
-    standing: &mut u8,
-    flagged: &mut u8,
+    place: u16,
+    standing: &mut u16,
+    flagged: &mut u16,
     total: &mut i64,
 ) -> u8
     ensures { λ r. ⌜ done (Reply.Reported (reported r (now (standing .exit)) (now (flagged .exit)) (now (total .exit)))) (now (register .entry)) ≡ step (Call.Ask place) (now (register .entry)) ⌝ }
@@ -93,8 +94,16 @@ pub extern "C" fn necktureen_report(
 
 // How long the meter's journal is, from 512 × place on: 0 where a report is refused.
 #[no_mangle]
-pub extern "C" fn necktureen_journal(register: &[u8], place: u8) -> usize
+pub extern "C" fn necktureen_journal(register: &[u8], place: u16) -> usize
     ensures { λ r. ⌜ r ≡ journalLength place (now (register .entry)) ⌝ }
 {
     meter::part::journal_length(register, place)
+}
+
+// A day sheet played on the register. Answers how long the text is, and puts as much of it as there is room for.
+#[no_mangle]
+pub extern "C" fn necktureen_play(sheet: &[u8], register: &mut [u8], text: &mut [u8]) -> usize
+    ensures { λ r. ⌜ Played (now (sheet .entry)) (now (register .entry)) (now (text .entry)) (now (register .exit)) (now (text .exit)) r ⌝ }
+{
+    sheet::play::play(sheet, register, text)
 }
