@@ -5,7 +5,7 @@ use mathlib.Core.List.{List, [], _∷_}
 use Prim.Native.Nat.{ℕ, _<_, _^_}
 use lib.IntN.{ℤ, pos, _+ℤ_, _*ℤ_}
 use Rattle.terms.specs.declared.entry.Entry.{Entry}
-use Rattle.register.specs.Area.{areas, areaOf}
+use Rattle.register.specs.Area.{areasIn, areaOf}
 use Rattle.journal.specs.Journal.{journalOf, standing}
 use Rattle.calls.specs.declared.call.Call.{Call}
 use Rattle.calls.specs.Kept.{isGood}
@@ -53,4 +53,4 @@ pub record RunsHold (meter : ℕ) (calls : List Call) : Type 0 where
 
 -- DEMAND 3: "This holds for every list of enrolments, submissions, withdrawals and reports, refused ones included, and for every meter."
 unfoldable pub DemandThree : Type 0
-DemandThree = (meter : ℕ) → meter < areas → (calls : List Call) → RunsHold meter calls
+DemandThree = (meter : ℕ) → meter < areasIn zeroRegister → (calls : List Call) → RunsHold meter calls

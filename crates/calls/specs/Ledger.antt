@@ -7,7 +7,7 @@ use lib.IntN.{ℤ, pos, _+ℤ_, _-ℤ_}
 use Rattle.terms.specs.declared.answer.Answer.{Answer}
 use Rattle.terms.specs.Number.{accepted}
 use Rattle.calls.specs.declared.call.Call.{Call}
-use Rattle.calls.specs.declared.call.Call.the-variants.{Enrol, Submit, Withdraw, Ask}
+use Rattle.calls.specs.declared.call.Call.the-variants.{Enrol, Submit, Withdraw, Report as ReportCall}
 use Rattle.calls.specs.declared.call.Reply.{Reply}
 use Rattle.calls.specs.declared.call.Reply.the-variants.{Answered, Reported}
 use Rattle.calls.specs.Play.{Exchange, numberOf, names}
@@ -77,7 +77,7 @@ entered (Withdraw place day value) (Answered a) l =
       withdrawn = named day value ∷ l .withdrawn;
     }
 entered (Withdraw place day value) (Reported r) l = l
-entered (Ask place) reply l = l
+entered (ReportCall place) reply l = l
 
 -- "Accepted means answered 0", here at this meter
 unfoldable pub isAccepted : ℕ → Exchange → Bool

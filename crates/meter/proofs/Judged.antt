@@ -12,7 +12,7 @@ use Rattle.journal.specs.declared.survey.Surveyed.{Surveyed}
 use Rattle.journal.specs.declared.survey.Surveyed.the-variants.{Zero, Damaged, Sound}
 use Rattle.journal.specs.Journal.{Journal, journalOf, allZero}
 use Rattle.journal.specs.Sound.{isSound}
-use Rattle.journal.specs.Survey.{surveyOf, surveyed}
+use Rattle.journal.specs.Inner.Survey.{surveyOf, surveyed}
 use Rattle.calls.specs.Checks.{withJournal}
 
 -- by the two tests

@@ -6,7 +6,7 @@ use lib.Dec.{eqb}
 use Rattle.terms.specs.Number.{accepted}
 use Rattle.terms.specs.Rule.{firstBroken}
 use Rattle.journal.specs.Journal.{journalOf}
-use Rattle.journal.specs.Survey.{surveyOf}
+use Rattle.journal.specs.Inner.Survey.{surveyOf}
 use Rattle.calls.specs.Checks.{withdrawChecks}
 use Rattle.meter.specs.declared.withdraw.Decided.{Decided}
 use Rattle.meter.specs.declared.withdraw.Decided.the-variants.{Refused, Taken}

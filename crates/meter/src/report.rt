@@ -52,7 +52,7 @@ fn report_area(area: &[u8]) -> Report
 }
 
 pub fn report(register: &[u8], place: u16) -> Report
-    ensures { λ r. ⌜ done (Reply.Reported r) (now (register .entry)) ≡ step (Call.Ask place) (now (register .entry)) ⌝ }
+    ensures { λ r. ⌜ done (Reply.Reported r) (now (register .entry)) ≡ step (Call.Report place) (now (register .entry)) ⌝ }
 {
     let unplaced = check_place(register, place);
     if unplaced != Number::ACCEPTED {

@@ -11,8 +11,8 @@ use Rattle.register.specs.declared.head.Head.{Head}
 use Rattle.register.specs.Area.{areaBytes}
 use Rattle.register.specs.Bytes.{byteAt, putWord, putLong}
 use Rattle.register.specs.Entries.{entryBytes, entryStart, putEntry}
-use Rattle.register.specs.Head.{headOf, headBytes, mostEntries, bodyOf, entryOffset}
-use Rattle.register.proofs.Back.{same-byte, same-long, entry-below}
+use Rattle.register.specs.Head.{meterBytes, headOf, putHead, headBytes, mostEntries, bodyOf, entryOffset}
+use Rattle.register.proofs.Back.{same-byte, same-long, entry-below, head-above}
 
 -- ---- sizes
 -- a head and all the entries that may follow it have room in an area
@@ -43,6 +43,15 @@ body-lent a start e = rw (take-all (length a - start) (drop start a) (simp lengt
 
 pub lent-room : (a : List ℕ) (head : Head) (start : ℕ) → head ≡ headOf a → start ≡ headBytes (headOf a) → length a ≡ areaBytes → entryStart (mostEntries head) ≤ length (take (length a - start) (drop start a))
 lent-room a head start h e size = rw (body-lent a start e, h) (body-room a size)
+
+-- an area has room for the meter's entry
+pub meter-room : (a : List ℕ) → length a ≡ areaBytes → meterBytes ≤ length a
+meter-room a size = omega arith
+
+-- after a head the body is what was there
+pub head-body : (a : List ℕ) (head : Head) → meterBytes ≤ length a → bodyOf (putHead a head) ≡ drop (headBytes head) a
+unfolding bodyOf headBytes
+head-body a head room = head-above a head meterBytes (omega arith)
 
 -- ---- areas that agree in the head's bytes have the same head
 module _ (a b : List ℕ) (h : take (headBytes (headOf a)) b ≡ take (headBytes (headOf a)) a) where
@@ -103,3 +112,8 @@ module _ (a : List ℕ) (k kind : ℕ) where
   pub kind-body : bodyOf (set a (entryOffset a k) kind) ≡ set (bodyOf a) (entryStart k) kind
   unfolding entryOffset bodyOf
   kind-body = same-body a (set a (entryOffset a k) kind) set-below ∙ drop-set-add (headBytes (headOf a)) a (entryStart k) kind
+
+-- ---- areas with one head have their entries at the same bytes
+pub same-offset : (a b : List ℕ) (k : ℕ) → headOf b ≡ headOf a → entryOffset b k ≡ entryOffset a k
+unfolding entryOffset
+same-offset a b k h = rw h

@@ -6,7 +6,7 @@ use lib.Dec.{eqb, leb, ltb}
 use lib.ListN.{length}
 use Rattle.register.specs.Bytes.{byteAt, wordAt, longAt}
 use Rattle.calls.specs.declared.call.Call.{Call}
-use Rattle.calls.specs.declared.call.Call.the-variants.{Enrol, Submit, Withdraw, Ask}
+use Rattle.calls.specs.declared.call.Call.the-variants.{Enrol, Submit, Withdraw, Report as ReportCall}
 use Rattle.sheet.specs.declared.split.Next.{Next}
 use Rattle.sheet.specs.declared.split.Next.the-variants.{Found, End, Fault}
 
@@ -64,7 +64,7 @@ module _ (sheet : List ℕ) (i : ℕ) where
 
   -- "4 report (place 1)"
   unfoldable pub reportAt : Call
-  reportAt = Ask (byteAt sheet i)
+  reportAt = ReportCall (byteAt sheet i)
 
 -- the call of a body that is there whole, and where the next entry starts; a cut body is a fault
 unfoldable pub bodyAt : List ℕ → ℕ → ℕ → Call → Next

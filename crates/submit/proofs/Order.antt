@@ -9,9 +9,8 @@ use Rattle.terms.specs.declared.submission.Submission.{Submission}
 use Rattle.terms.specs.Entry.{slotAt}
 use Rattle.terms.specs.Rule.{Rule, rule, firstBroken}
 use Rattle.journal.specs.declared.survey.Survey.{Survey}
-use Rattle.journal.specs.Journal.{Journal}
+use Rattle.journal.specs.Journal.{Journal, isThere}
 use Rattle.journal.specs.Sound.{exists}
-use Rattle.journal.specs.Survey.{isThere}
 use Rattle.submit.specs.Decision.{surveyFor}
 
 -- a read stands if there is a last one

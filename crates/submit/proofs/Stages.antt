@@ -18,7 +18,7 @@ use Rattle.journal.specs.declared.survey.Surveyed.{Surveyed}
 use Rattle.journal.specs.declared.survey.Surveyed.the-variants.{Zero, Damaged, Sound}
 use Rattle.journal.specs.Journal.{Journal, journalOf, allZero, standing, kept}
 use Rattle.journal.specs.Sound.{isSound}
-use Rattle.journal.specs.Survey.{surveyed}
+use Rattle.journal.specs.Inner.Survey.{surveyed}
 use Rattle.calls.specs.Calls.{isVolumeQuery, submittedAdvance}
 use Rattle.calls.specs.Checks.{isDenied, isUnclear, indicatedIn, submitRules, submitChecks}
 use Rattle.submit.specs.declared.decide.Decision.{Decision}

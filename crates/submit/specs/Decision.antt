@@ -14,7 +14,7 @@ use Rattle.terms.specs.Rule.{Rule, firstBroken}
 use Rattle.register.specs.Entries.{entryStart, putEntry}
 use Rattle.journal.specs.declared.survey.Survey.{Survey}
 use Rattle.journal.specs.Journal.{Journal, journalOf, kept}
-use Rattle.journal.specs.Survey.{surveyOf}
+use Rattle.journal.specs.Inner.Survey.{surveyOf}
 use Rattle.calls.specs.Checks.{submitRules, submitChecks, takenFlag}
 use Rattle.calls.specs.Calls.{entryFor, isVolumeQuery, submittedAdvance}
 use Rattle.submit.specs.declared.decide.Decision.{Decision}

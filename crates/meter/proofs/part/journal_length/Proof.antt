@@ -6,7 +6,7 @@ use borrow.Author.Tests.{ne-eqb}
 use Rattle.terms.specs.Number.{accepted}
 use Rattle.register.proofs.Lent.{lent}
 use Rattle.journal.specs.Journal.{journalOf}
-use Rattle.journal.specs.Survey.{surveyOf}
+use Rattle.journal.specs.Inner.Survey.{surveyOf}
 use Rattle.journal.proofs.Entries.{length-entries}
 use Rattle.calls.specs.Checks.{reportChecks}
 use Rattle.calls.specs.Calls.{placeNumber, journalLength}

@@ -1,6 +1,6 @@
 -- The place is checked as the step has it, and the area that is lent is reported on; a report changes no byte.
 use native.Mathlib.Omega.{arith}
-use Rattle.calls.specs.declared.call.Call.the-variants.{Ask}
+use Rattle.calls.specs.declared.call.Call.the-variants.{Report as ReportCall}
 use Rattle.calls.specs.Calls.{act, placeOf, refusalOf}
 use Rattle.meter.proofs.Placed.{placed, refuses, keeps}
 use borrow.Author.Needs.{needs}
@@ -17,7 +17,7 @@ returns : tie.Need-returns
 unfolding placeOf refusalOf
 returns c =
     let start = c .before .before .before .before .args in
-    rw (c .refuse-report .ensures) (refuses (Ask (start .place)) (start .register .now) (c .before .before .check-place .ensures) (c .before .if1 .taken))
+    rw (c .refuse-report .ensures) (refuses (ReportCall (start .place)) (start .register .now) (c .before .before .check-place .ensures) (c .before .if1 .taken))
 
 mul-from : tie.Need-mul-from
 mul-from c = search needs
@@ -42,7 +42,7 @@ unfolding placeOf act
 returns-2 c =
     let e = c .before .before in
     let start = e .before .before .before .args in
-    keeps (Ask (start .place)) (start .register .now) (e .before .check-place .ensures) (e .if1 .left) (c .report-area .ensures)
+    keeps (ReportCall (start .place)) (start .register .now) (e .before .check-place .ensures) (e .if1 .left) (c .report-area .ensures)
 
 pub report-spec : {M : Type 1} → statement M
 report-spec =

@@ -10,8 +10,8 @@ use Rattle.terms.specs.declared.entry.Slot.the-variants.{Read, Empty}
 use Rattle.terms.specs.Entry.{slotAt, recentOf}
 use Rattle.rules.proofs.Laws.{advance-word}
 use Rattle.journal.specs.declared.survey.Survey.{Survey}
-use Rattle.journal.specs.Journal.{Journal, standing}
-use Rattle.journal.specs.Survey.{countsOf, firstValue, surveyOf}
+use Rattle.journal.specs.Journal.{Journal, standing, firstValue}
+use Rattle.journal.specs.Inner.Survey.{countsOf, surveyOf}
 use Rattle.calls.specs.Calls.{flaggedOf, totalOf}
 use borrow.Author.Needs.{needs}
 use Rattle.meter.proofs.report.total.Statement.{statement}

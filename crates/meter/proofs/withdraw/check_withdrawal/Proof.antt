@@ -5,7 +5,7 @@ use Prim.Native.Nat.{ℕ}
 use Rattle.terms.specs.Entry.{slotAt, recentOf}
 use Rattle.journal.specs.declared.survey.Survey.{Survey}
 use Rattle.journal.specs.Journal.{Journal, standing}
-use Rattle.journal.specs.Survey.{foundOf, surveyOf}
+use Rattle.journal.specs.Inner.Survey.{foundOf, surveyOf}
 use Rattle.calls.specs.Checks.{isNotStanding}
 use borrow.Author.Needs.{needs}
 use Rattle.meter.proofs.withdraw.check_withdrawal.Statement.{statement}

@@ -11,8 +11,8 @@ use Rattle.terms.specs.Number.{accepted}
 use Rattle.terms.specs.Rule.{firstBroken}
 use Rattle.terms.specs.Entry.{recentOf}
 use Rattle.journal.specs.declared.survey.Survey.{Survey}
-use Rattle.journal.specs.Journal.{journalOf}
-use Rattle.journal.specs.Survey.{isThere, countsOf, surveyOf}
+use Rattle.journal.specs.Journal.{journalOf, isThere}
+use Rattle.journal.specs.Inner.Survey.{countsOf, surveyOf}
 use Rattle.calls.specs.declared.call.Call.the-variants.{Withdraw}
 use Rattle.calls.specs.declared.call.Reply.the-variants.{Answered}
 use Rattle.meter.specs.declared.withdraw.Decided.the-variants.{Refused, Taken}

@@ -2,7 +2,7 @@
 use mathlib.Core.Path.{_≡_, sym, _∙_}
 use Rattle.terms.specs.Entry.{recentOf}
 use Rattle.journal.specs.Journal.{Journal}
-use Rattle.journal.specs.Survey.{countsOf, surveyOf}
+use Rattle.journal.specs.Inner.Survey.{countsOf, surveyOf}
 use Rattle.calls.specs.Checks.{indicatedIn}
 use Rattle.submit.specs.Decision.{surveyFor}
 use Rattle.submit.proofs.Stages.{denied, unclear, flagged}

@@ -3,7 +3,7 @@ use mathlib.Core.Path.{refl, ap}
 use mathlib.Core.Bool.{Bool}
 use Prim.Native.Nat.{ℕ}
 use Rattle.journal.specs.declared.survey.Survey.{Survey}
-use Rattle.journal.specs.Survey.{foundOf, surveyOf}
+use Rattle.journal.specs.Inner.Survey.{foundOf, surveyOf}
 use Rattle.calls.specs.Checks.{isWithdrawnRead, submitRules}
 use Rattle.submit.specs.Decision.{earlyRules}
 use Rattle.submit.proofs.Order.{Reached, breaks, passes, next}

@@ -4,7 +4,7 @@ use mathlib.Core.Bool.{Bool}
 use Prim.Native.Nat.{ℕ}
 use Rattle.terms.specs.Entry.{recentOf}
 use Rattle.journal.specs.declared.survey.Survey.{Survey}
-use Rattle.journal.specs.Survey.{countsOf, surveyOf}
+use Rattle.journal.specs.Inner.Survey.{countsOf, surveyOf}
 use Rattle.calls.specs.Checks.{submitRules}
 use Rattle.submit.specs.Decision.{lateRules}
 use Rattle.submit.proofs.Order.{Reached, breaks, passes, next}
