@@ -21,3 +21,4 @@ pub mod Unenrolled
 pub mod Chains
 pub mod Known
 pub mod KeptAll
+pub mod Refusals
