@@ -5,3 +5,4 @@ pub mod Play
 pub mod DemandOne
 pub mod Ledger
 pub mod DemandThree
+pub mod Examples
