@@ -11,6 +11,7 @@ ghost use Rattle.register.specs.Entries.{entryStart, entryAt};
 ghost use Rattle.journal.specs.Journal.{maxEntries, entriesTo, allZero, standing, slotIf, heldOf};
 ghost use Rattle.journal.specs.Sound.{isMeter};
 ghost use Rattle.journal.specs.Survey.{foundOf, surveyed};
+ghost use Rattle.journal.specs.Numbers.{Surveys};
 ghost use Rattle.journal.specs.Loops.{orderOf, placesOf};
 use crate::apart::is_apart;
 use crate::plate::is_plate;
@@ -255,7 +256,7 @@ fn survey_journal(area: &[u8], day: u16, value: u32) -> Surveyed
 // All zero, damaged, or sound with what the calls need: for any bytes whatever. An area whose first byte is not zero need not be looked
 // through for zeros.
 pub fn survey_area(area: &[u8], day: u16, value: u32) -> Surveyed
-    ensures { λ r. ⌜ r ≡ surveyed day value (now (area .entry)) ⌝ }
+    ensures { λ r. ⌜ Surveys day value (now (area .entry)) r ⌝ }
 {
     if area.len() != Layout::AREA_BYTES {
         return Surveyed::Damaged;
