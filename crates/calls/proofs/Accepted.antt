@@ -18,10 +18,11 @@ use Rattle.terms.specs.Rule.{firstBroken}
 use Rattle.terms.specs.Entry.{kindStanding, kindHeld, isStanding, isWithdrawn, isHeld, those, slotAt, recentOf}
 use Rattle.rules.specs.Volume.{isLowVolume, isHighVolume, isOverCapacity}
 use Rattle.journal.specs.Journal.{Journal, journalOf, isKept, standing, withdrawn, kept, heldOf, isThere}
+use Rattle.journal.specs.Numbers.{areaRules}
 use Rattle.journal.specs.Sound.{every, any, isInRange, isRead, isFinalRead, hasRead, isApartFrom, areApart, areInOrder, areSound}
 use Rattle.journal.specs.Inner.Follow.{isAfter, mayStand, mayFollow}
 use Rattle.journal.proofs.InOrder.{in-order-more}
-use Rattle.calls.specs.Checks.{isWithdrawnRead, isFull, takenFlag, recent, areaRules, contentRules, sameDayRules, orderRules, indicatorRules, volumeRules, submitChecks}
+use Rattle.calls.specs.Checks.{isWithdrawnRead, isFull, takenFlag, recent, contentRules, sameDayRules, orderRules, indicatorRules, volumeRules, submitChecks}
 use Rattle.calls.specs.Calls.{entryFor, isVolumeQuery}
 use Rattle.calls.proofs.Bools.{both, together, neither, either-of, or-false, left-or, right-or, apart, by-test}
 use Rattle.calls.proofs.Passed.{Passed, IsOther, Checked, checked, good-body, known, one-final, may-stand, known-holdable, IsQuery, query-checked, query-exists, is-after}

@@ -43,7 +43,7 @@ module _ (plate : Head) (a : List ℕ) where
   enrol-unchanged h = ap (λ (x : Acted). x .area) (enrol-refused h)
 
 -- ---- submission
-query-refused : (number : ℕ) → isVolumeQuery number ≡ true → eqb number accepted ≡ false
+pub query-refused : (number : ℕ) → isVolumeQuery number ≡ true → eqb number accepted ≡ false
 query-refused number h = by-query (λ n. eqb n accepted ≡ false) number h refl refl
 
 module _ (s : Submission) (a : List ℕ) where

@@ -5,6 +5,7 @@ use mathlib.Core.List.{List, [], _∷_, _++_}
 use Prim.Native.Nat.{ℕ}
 use borrow.Author.Tests.{eq-eqb, not-true}
 use lib.Dec.{eqb}
+use Rattle.terms.specs.Number.{accepted}
 use Rattle.terms.specs.Rule.{Rule, firstBroken}
 use Rattle.calls.proofs.Bools.{both, apart}
 
@@ -30,6 +31,13 @@ past-group k (r ∷ rs) others o h =
     let f = not-first (r .broken) (r .number) k (firstBroken (rs ++ others)) (o' .0) h in
     let g = past-group k rs others (o' .1) (f .1) in
     ((f .0, g .0), g .1)
+
+-- a number that none of them has is that of no rule broken
+pub no-number : (k : ℕ) (rs : List Rule) → haveOthers k rs ≡ true → firstBroken rs ≡ k → accepted ≡ k
+no-number k [] o h = h
+no-number k (r ∷ rs) o h =
+    let o' = both (not (eqb (r .number) k)) (haveOthers k rs) o in
+    no-number k rs (o' .1) (not-first (r .broken) (r .number) k (firstBroken rs) (o' .0) h .1)
 
 -- a list that is one group
 pub unbroken : (k : ℕ) (rs : List Rule) → haveOthers k rs ≡ true → firstBroken rs ≡ k → Unbroken rs

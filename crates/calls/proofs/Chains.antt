@@ -28,6 +28,7 @@ use Rattle.calls.proofs.Totals.{total-sum}
 use Rattle.calls.proofs.Names.{none-stand}
 use Rattle.calls.proofs.Effects.{standingReads, withdrawnReads, Effects}
 use Rattle.calls.proofs.Invariant.{Fresh, Live, Good, call-good}
+use Rattle.calls.proofs.Unenrolled.{Without, without-enrolment}
 
 -- whether an exchange is accepted at a meter
 module _ (meter : ℕ) where
@@ -110,7 +111,7 @@ unfolding emptyLedger
 start-good meter = inl (record { zero = zero-area meter; standing-is = refl; advances-are = refl; flags-are = refl; withdrawn-is = refl })
 
 -- ---- what the invariant gives at the end of a run
-module _ (effects : Effects) (meter : ℕ) (xs : List Exchange) (register : List ℕ) where
+module _ (effects : Effects) (meter : ℕ) (xs : List Exchange) (register : List ℕ) (without : Without meter xs) where
   abbrev area : List ℕ
   area = areaOf meter register
 
@@ -124,7 +125,7 @@ module _ (effects : Effects) (meter : ℕ) (xs : List Exchange) (register : List
         sum = f .advances-are ∙ sym (ap₂ _+ℤ_ (ap lastLessFirst (f .standing-is)) (ap (λ (z : ℤ). pos (10 ^ l .dials) *ℤ z) (f .flags-are) ∙ *ℤ-zero (pos (10 ^ l .dials))));
         apart = ap (λ (rs : List Named). areNoneOf rs (l .withdrawn)) (f .standing-is);
         stand = ap (λ (es : List Entry). namesOf (standing es)) (effects .empty area (f .zero)) ∙ sym (f .standing-is);
-        unenrolled = λ none. (f .standing-is, f .advances-are, f .flags-are);
+        unenrolled = without;
         good = left-or (isSound area) (f .zero);
       }
 
@@ -141,7 +142,7 @@ module _ (effects : Effects) (meter : ℕ) (xs : List Exchange) (register : List
             ap (λ (rs : List Named). areNoneOf rs (l .withdrawn)) (sym (g .standing-is))
             ∙ none-stand (l .withdrawn) (standingReads area) (withdrawnReads area) (effects .none-clash area (g .sound)) (g .withdrawn-are);
         stand = g .standing-is;
-        unenrolled = λ none. absurd (effects .some-dials area (g .sound) (g .dials-are ∙ none));
+        unenrolled = without;
         good = right-or (allZero area) (g .sound);
       }
 
@@ -154,6 +155,7 @@ module _ (local : Local) (effects : Effects) (meter : ℕ) (near : Near meter) w
   unfolding ledgerOf
   in-run calls =
       holds effects meter (exchanges calls zeroRegister) (registerAfter calls zeroRegister)
+      (without-enrolment local effects meter near calls zeroRegister zero-whole (zero-area meter))
       (run-good local effects meter near calls zeroRegister zero-whole emptyLedger (start-good meter))
 
 pub demand-three : Local → Effects → DemandThree

@@ -76,7 +76,6 @@ pub record Effects : Type 0 where
   pub empty : (area : List ℕ) → allZero area ≡ true → journalOf area .entries ≡ []
   pub none-clash : (area : List ℕ) → isSound area ≡ true → areApart (standingReads area) (withdrawnReads area) ≡ true
   pub few-dials : (area : List ℕ) → isSound area ≡ true → journalOf area .head .dials < 10
-  pub some-dials : (area : List ℕ) → isSound area ≡ true → journalOf area .head .dials ≡ 0 → ⊥
   pub enrol : (place dials capacity : ℕ) (area : List ℕ) → length area ≡ areaBytes →
       let after = act (Enrol place dials capacity) area in
       numberOf (after .reply) ≡ accepted → Enrolled dials area (after .area)

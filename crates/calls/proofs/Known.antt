@@ -1,4 +1,4 @@
--- The calls have the effects that the theorem about lists uses: each is read off the laws about one call.
+-- The calls have the effects that the theorem about lists uses: each is read off the laws about one call (`Acted`).
 use mathlib.Core.Path.{_≡_, refl, sym, ap, _∙_}
 use mathlib.Core.Logic.{inl, inr}
 use mathlib.Core.Bool.{Bool, true, false, not, _&&_, _||_}
@@ -83,13 +83,6 @@ module _ (area : List ℕ) (sound : isSound area ≡ true) where
       let most : head .dials ≤ mostDials = leb-true (head .dials) mostDials upper in
       omega arith
 
-  dials-some : journalOf area .head .dials ≡ 0 → ⊥
-  unfolding isPlate journalOf
-  dials-some none =
-      let lower : leb leastDials (head .dials) ≡ true = both (leb leastDials (head .dials)) _ (plated .1) .0 in
-      let least : leastDials ≤ head .dials = leb-true leastDials (head .dials) lower in
-      omega arith
-
   module _ (e : Entry) (ss : List Entry) (stands : standingReads area ≡ e ∷ ss) where
     newest-read : isRead head e ≡ true
     unfolding every
@@ -112,7 +105,7 @@ module _ (plate : Head) (area : List ℕ) where
   abbrev enrolNumber : ℕ
   enrolNumber = firstBroken (enrolChecks plate area)
 
-  enrol-number : numberOf (enrolIn plate area .reply) ≡ enrolNumber
+  pub enrol-number : numberOf (enrolIn plate area .reply) ≡ enrolNumber
   unfolding enrolIn numberOf
   enrol-number = by-test (eqb enrolNumber accepted) (λ h. rw h (sym (eqb-true enrolNumber accepted h))) (λ h. rw h)
 
@@ -120,7 +113,7 @@ module _ (s : Submission) (area : List ℕ) where
   abbrev submitNumber : ℕ
   submitNumber = firstBroken (submitChecks s area)
 
-  submit-number : numberOf (submitIn s area .reply) ≡ submitNumber
+  pub submit-number : numberOf (submitIn s area .reply) ≡ submitNumber
   unfolding submitIn numberOf
   submit-number =
       by-test (eqb submitNumber accepted)
@@ -136,7 +129,7 @@ module _ (day value : ℕ) (area : List ℕ) where
   answer-number n (Read e) second = refl
   answer-number n Empty second = refl
 
-  withdraw-number : numberOf (withdrawIn day value area .reply) ≡ withdrawNumber
+  pub withdraw-number : numberOf (withdrawIn day value area .reply) ≡ withdrawNumber
   unfolding withdrawIn numberOf
   withdraw-number =
       by-test (eqb withdrawNumber accepted)
@@ -276,7 +269,6 @@ effects =
       empty = empty-entries;
       none-clash = λ area sound. clauses area sound .apart;
       few-dials = dials-few;
-      some-dials = dials-some;
       enrol = known-enrol;
       submit = known-submit;
       hold = known-hold;

@@ -21,9 +21,10 @@ use Rattle.rules.specs.Detection.{isNotRollover, detected}
 use Rattle.rules.specs.Indicator.{indicated, indicatedFlag}
 use Rattle.rules.specs.Volume.{hasVolumeCheck, hasThreshold, isBelowThreshold, isAboveThreshold, isLowVolume, isHighVolume}
 use Rattle.journal.specs.Journal.{Journal, journalOf, standing, isThere, onDay}
+use Rattle.journal.specs.Numbers.{areaRules}
 use Rattle.journal.specs.Sound.{any, holds, takes, opens, isInRange, isFinalRead, exists, isSound}
 use Rattle.journal.specs.Inner.Follow.{isAfter, mayStand}
-use Rattle.calls.specs.Checks.{isBadContent, isBadDate, isWithdrawnRead, isBackDated, isUnopened, isATLater, isOpeningIndicated, isFull, indicatedIn, takenFlag, recent, sameDay, areaRules, contentRules, sameDayRules, orderRules, indicatorRules, volumeRules, submitRules, submitChecks}
+use Rattle.calls.specs.Checks.{isBadContent, isBadDate, isWithdrawnRead, isBackDated, isUnopened, isATLater, isOpeningIndicated, isFull, indicatedIn, takenFlag, recent, sameDay, contentRules, sameDayRules, orderRules, indicatorRules, volumeRules, submitRules, submitChecks}
 use Rattle.calls.specs.Calls.{entryFor}
 use Rattle.calls.proofs.Bools.{both, together, neither, either-of, right-or, apart, by-test}
 use Rattle.calls.proofs.Broken.{Unbroken, haveOthers, past-group}

@@ -19,9 +19,10 @@ use Rattle.register.specs.Head.{headOf, mostEntries, bodyOf, entryOffset}
 use Rattle.register.proofs.Back.{entry-length, entry-below, entry-above, entry-same, past-entry, other-kind}
 use Rattle.register.proofs.Body.{body-room, entry-head, entry-head-kind, entry-body, kind-head, kind-head-kind, kind-body, same-offset}
 use Rattle.journal.specs.Journal.{Journal, allZero, entriesTo, entryCount, journalOf, isKept, standing, withdrawn, kept, heldOf, isThere, newestAt}
+use Rattle.journal.specs.Numbers.{areaRules}
 use Rattle.journal.specs.Sound.{any, hasRead, areSound, isSound}
 use Rattle.journal.proofs.Entries.{length-entries, count-at-most}
-use Rattle.calls.specs.Checks.{isNotLast, areaRules, withdrawRules, withdrawChecks}
+use Rattle.calls.specs.Checks.{isNotLast, withdrawRules, withdrawChecks}
 use Rattle.calls.specs.Calls.{withdrawnBytes, withdrawnArea}
 use Rattle.calls.proofs.Bools.{by-test, apart, right-or}
 use Rattle.calls.proofs.Zeros.{zero-entry}

@@ -11,7 +11,7 @@ use Rattle.terms.specs.declared.entry.Recent.{Recent}
 use Rattle.terms.specs.declared.submission.Submission.{Submission}
 use Rattle.terms.specs.Letter.{letterI, isKnown, isOpening, isFinal}
 use Rattle.terms.specs.Entry.{indicatorNotSet, indicatorTrue, slotAt, recentOf}
-use Rattle.terms.specs.Number.{repeat, noMeter, damaged, missing, content, date, withdrawnRead, readAT, readEH, readBF, backDated, readDF, indicatorOnOpening, noOriginal, full, readEE, readEF, low, high, overCapacity, notStanding, notLast, enrolled, plate}
+use Rattle.terms.specs.Number.{repeat, missing, content, date, withdrawnRead, readAT, readEH, readBF, backDated, readDF, indicatorOnOpening, noOriginal, full, readEE, readEF, low, high, overCapacity, notStanding, notLast, enrolled, plate}
 use Rattle.terms.specs.Rule.{Rule, rule}
 use Rattle.rules.specs.declared.indicator.Indicated.{Indicated}
 use Rattle.rules.specs.Detection.{detected}
@@ -20,6 +20,7 @@ use Rattle.rules.specs.Volume.{isLowVolume, isHighVolume, isOverCapacity}
 use Rattle.register.specs.declared.head.Head.{Head}
 use Rattle.register.specs.Head.{mostEntries}
 use Rattle.journal.specs.Journal.{Journal, journalOf, allZero, standing, withdrawn, kept, heldOf, isThere, onDay}
+use Rattle.journal.specs.Numbers.{areaRules}
 use Rattle.journal.specs.Sound.{any, exists, hasRead, isFinalRead, isPlate, isSound}
 
 -- ---- 5 to 8: what is submitted
@@ -114,10 +115,7 @@ isNotLast day value Empty = true
 
 -- ---- THE ORDER OF CHECKS. Every call checks 2 first, and then 3 for a place above 63.
 
--- 3 and 4: "area all zero", "area neither zero nor sound"
-unfoldable pub areaRules : List ℕ → List Rule
-areaRules area = rule noMeter (allZero area) ∷ rule damaged (not (isSound area)) ∷ []
-
+-- 3 and 4 are of the area alone
 -- and then what a call asks of the journal
 abbrev pub withJournal : (Journal → List Rule) → List ℕ → List Rule
 withJournal rules area = areaRules area ++ rules (journalOf area)

@@ -91,6 +91,22 @@ ledgerAfter meter (x ∷ xs) l = ledgerAfter meter xs (cond (isAccepted meter x)
 unfoldable pub ledgerOf : ℕ → List Exchange → Ledger
 ledgerOf meter xs = ledgerAfter meter xs emptyLedger
 
+-- a call that was accepted at this meter is among the exchanges
+unfoldable pub hasAccepted : ℕ → List Exchange → Bool
+hasAccepted meter [] = false
+hasAccepted meter (x ∷ xs) = isAccepted meter x || hasAccepted meter xs
+
+-- "the meter's accepted enrolment" is among them
+unfoldable pub isEnrolment : Call → Bool
+isEnrolment (Enrol place dials capacity) = true
+isEnrolment (Submit place read) = false
+isEnrolment (Withdraw place day value) = false
+isEnrolment (ReportCall place) = false
+
+unfoldable pub hasEnrolment : ℕ → List Exchange → Bool
+hasEnrolment meter [] = false
+hasEnrolment meter (x ∷ xs) = isAccepted meter x && isEnrolment (x .call) || hasEnrolment meter xs
+
 -- "First and last are the two ends; of one read they are the same."
 unfoldable pub firstValueOf : Named → List Named → ℕ
 firstValueOf s [] = s .value

@@ -13,7 +13,7 @@ ghost use Rattle.register.specs.Entries.{entryStart, entryAt};
 ghost use Rattle.register.specs.Head.{headOf, mostEntries};
 ghost use Rattle.journal.specs.Journal.{entriesTo, allZero, standing, slotIf, heldOf};
 ghost use Rattle.journal.specs.Sound.{isHead};
-ghost use Rattle.journal.specs.Inner.Survey.{foundOf, surveyed, surveyedBody};
+ghost use Rattle.journal.specs.Inner.Survey.{foundOf, surveyed, surveyedBody, Surveys};
 ghost use Rattle.journal.specs.Inner.Loops.{orderOf, placesOf};
 use crate::apart::is_apart;
 use crate::plate::is_plate;
@@ -266,7 +266,7 @@ fn survey_journal(area: &[u8], day: u16, value: u32) -> Surveyed
 // All zero, damaged, or sound with what the calls need: for any bytes whatever. An area whose first byte is not zero need not be looked
 // through for zeros.
 pub fn survey_area(area: &[u8], day: u16, value: u32) -> Surveyed
-    ensures { λ r. ⌜ r ≡ surveyed day value (now (area .entry)) ⌝ }
+    ensures { λ r. ⌜ Surveys day value (now (area .entry)) r ⌝ }
 {
     if area.len() != Layout::AREA_BYTES {
         return Surveyed::Damaged;

@@ -1,6 +1,7 @@
 // Journal: the meter's part of the caller's own register.
 ghost use mathlib.Core.Path.{_≡_};
-ghost use Rattle.calls.specs.Calls.{journalLength, journalPart};
+ghost use Rattle.calls.specs.Calls.{journalLength};
+ghost use Rattle.meter.specs.Part.{Part};
 use crate::place::check_place;
 use journal::survey::Surveyed;
 use journal::survey::survey_area;
@@ -23,8 +24,9 @@ pub fn journal_length(register: &[u8], place: u16) -> usize
     }
 }
 
+// The meter's own part: its bytes lie in the register that was lent, from 512 × place on.
 pub fn journal(register: &[u8], place: u16) -> &[u8]
-    ensures { λ r. ⌜ now r ≡ journalPart place (now (register .entry)) ⌝ }
+    ensures { λ r. ⌜ Part place (now (register .entry)) (register .entry .ptr) (now r) (r .ptr) ⌝ }
 {
     let size = journal_length(register, place);
     if size == 0 {

@@ -9,7 +9,7 @@ ghost use Rattle.journal.specs.Journal.{Journal};
 ghost use Rattle.journal.specs.Survey.{surveyOf};
 ghost use Rattle.calls.specs.Checks.{isNotLast, withdrawRules};
 ghost use Rattle.calls.specs.Calls.{withdrawnAnswer, withdrawnBytes, done, step};
-ghost use Rattle.meter.specs.Withdrawal.{withdrawDecided};
+ghost use Rattle.meter.specs.Withdrawal.{Decides};
 use crate::place::check_place;
 use arithmetic::advance::advance;
 use calls::call::Call;
@@ -62,7 +62,7 @@ fn check_withdrawal(v: Survey, day: u16, value: u32) -> u8
 // 3, 4, 22, 23, or the journal to change.
 fn decide_withdrawal(area: &[u8], day: u16, value: u32) -> Decided
     requires { ⌜ length (now area) ≡ areaBytes ⌝ }
-    ensures { λ r. ⌜ r ≡ withdrawDecided day value (now (area .entry)) ⌝ }
+    ensures { λ r. ⌜ Decides day value (now (area .entry)) r ⌝ }
 {
     match survey_area(area, day, value) {
         Surveyed::Zero => Decided::Refused(Number::NO_METER),

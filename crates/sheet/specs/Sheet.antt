@@ -4,6 +4,7 @@ use mathlib.Core.List.{List, [], _∷_}
 use Prim.Native.Nat.{ℕ, zero, suc, _+_}
 use lib.Dec.{eqb, leb, ltb}
 use lib.ListN.{length}
+use Rattle.terms.specs.Number.{accepted, sheetFault}
 use Rattle.register.specs.Bytes.{byteAt, wordAt, longAt}
 use Rattle.calls.specs.declared.call.Call.{Call}
 use Rattle.calls.specs.declared.call.Call.the-variants.{Enrol, Submit, Withdraw, Report as ReportCall}
@@ -84,6 +85,12 @@ nextAt sheet at =
     (cond (eqb (byteAt sheet at) kindReport)
     (bodyAt sheet at reportBody (reportAt sheet (at + 1)))
     Fault))))
+
+-- the paper's number for what stands there: 26 for "unknown kind, cut body", and for the rest none of its own
+unfoldable pub nextNumber : Next → ℕ
+nextNumber (Found call next) = accepted
+nextNumber End = accepted
+nextNumber Fault = sheetFault
 
 -- the calls of a sheet in order, and whether a fault ends them
 pub record Split : Type 0 where

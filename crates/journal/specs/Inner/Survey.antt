@@ -1,4 +1,5 @@
 -- What the loops over an area gather for the calls: each field as the journal's entries have it.
+use mathlib.Core.Path.{_≡_}
 use mathlib.Core.Bool.{not, _&&_, cond}
 use mathlib.Core.List.{List}
 use Prim.Native.Nat.{ℕ}
@@ -6,6 +7,7 @@ use lib.Dec.{eqb}
 use lib.ListN.{length, drop}
 use Rattle.terms.specs.declared.entry.Entry.{Entry}
 use Rattle.terms.specs.Entry.{those, recentOf}
+use Rattle.terms.specs.Rule.{firstBroken}
 use Rattle.register.specs.Area.{areaBytes}
 use Rattle.register.specs.declared.head.Head.{Head}
 use Rattle.register.specs.Entries.{entryStart}
@@ -16,6 +18,7 @@ use Rattle.journal.specs.declared.survey.Survey.{Survey}
 use Rattle.journal.specs.declared.survey.Surveyed.{Surveyed}
 use Rattle.journal.specs.declared.survey.Surveyed.the-variants.{Zero, Damaged, Sound}
 use Rattle.journal.specs.Journal.{Journal, journalOf, allZero, entriesTo, countFrom, standing, withdrawn, kept, heldOf, onDay, isFlagged, firstValue, newestAt}
+use Rattle.journal.specs.Numbers.{areaRules, surveyedNumber}
 use Rattle.journal.specs.Sound.{isSound, areSound, any, hasRead, isFinalRead}
 
 -- ---- the counts
@@ -67,3 +70,8 @@ surveyedBody day value head body =
     cond (allZero (drop (entryStart count) body) && areSound head (entriesTo count body))
     (Sound (surveyOf day value (record { head = head; entries = entriesTo count body })))
     Damaged
+
+-- what a survey answers: what was found, and with it the number of the area
+pub record Surveys (day value : ℕ) (area : List ℕ) (found : Surveyed) : Type 0 where
+  pub found-is : found ≡ surveyed day value area
+  pub number-is : length area ≡ areaBytes → surveyedNumber found ≡ firstBroken (areaRules area)

@@ -48,7 +48,11 @@ part-result-end c = search needs
 
 returns : tie.Need-returns
 unfolding journalPart
-returns c = rw (← c .before .before .journal-length .ensures, c .before .if1 .taken)
+returns c =
+    record {
+      bytes-are = rw (← c .before .before .journal-length .ensures, c .before .if1 .taken);
+      starts = λ some. absurd (some refl);
+    }
 
 mul-from : tie.Need-mul-from
 mul-from c = search needs
@@ -71,7 +75,10 @@ returns-2 c =
     let p = c .before .before .before .before .args .place in
     let size = c .before .before .journal-length .result in
     let same : areaBytes * p + size - areaBytes * p ≡ size = omega arith in
-    rw (same, ← c .before .before .journal-length .ensures)
+    record {
+      bytes-are = rw (same, ← c .before .before .journal-length .ensures);
+      starts = λ some. refl;
+    }
 
 pub journal-spec : {M : Type 1} → statement M
 journal-spec =

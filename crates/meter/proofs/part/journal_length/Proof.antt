@@ -67,21 +67,21 @@ unfolding journalLength reportChecks
 returns-2 c =
     let d = c .before .before in
     let e = d .before .before in
-    rw (there e, ← lent _ _, zero-number (λ j. []) 0 0 _ (part-length _ _ refl (there e)) (sym (d .survey-area .ensures) ∙ c .enum-told .given .1))
+    rw (there e, ← lent _ _, zero-number (λ j. []) 0 0 _ (part-length _ _ refl (there e)) (sym (d .survey-area .ensures .found-is) ∙ c .enum-told .given .1))
 
 returns-3 : tie.Need-returns-3
 unfolding journalLength reportChecks
 returns-3 c =
     let d = c .before .before in
     let e = d .before .before in
-    rw (there e, ← lent _ _, damaged-number (λ j. []) 0 0 _ (part-length _ _ refl (there e)) (sym (d .survey-area .ensures) ∙ c .enum-told2 .given .1))
+    rw (there e, ← lent _ _, damaged-number (λ j. []) 0 0 _ (part-length _ _ refl (there e)) (sym (d .survey-area .ensures .found-is) ∙ c .enum-told2 .given .1))
 
 returns-4 : tie.Need-returns-4
 unfolding journalLength reportChecks surveyOf journalOf
 returns-4 c =
     let d = c .before .before .before .before in
     let e = d .before .before in
-    let sound = sound-number (λ j. []) 0 0 _ (part-length _ _ refl (there e)) (sym (d .survey-area .ensures) ∙ c .before .before .v .given .1) in
+    let sound = sound-number (λ j. []) 0 0 _ (part-length _ _ refl (there e)) (sym (d .survey-area .ensures .found-is) ∙ c .before .before .v .given .1) in
     rw (there e, ← lent _ _, sound .1, sound .0, length-entries)
 
 pub journal-length-spec : {M : Type 1} → statement M

@@ -43,13 +43,13 @@ returns : tie.Need-returns
 unfolding reportIn reportChecks
 returns c =
     let d = c .before .before .before in
-    rw (c .refuse-report .ensures, zero-number (λ j. []) 0 0 _ (d .before .before .pre) (sym (d .survey-area .ensures) ∙ c .before .enum-told .given .1))
+    rw (c .refuse-report .ensures, zero-number (λ j. []) 0 0 _ (d .before .before .pre) (sym (d .survey-area .ensures .found-is) ∙ c .before .enum-told .given .1))
 
 returns-2 : tie.Need-returns-2
 unfolding reportIn reportChecks
 returns-2 c =
     let d = c .before .before .before in
-    rw (c .refuse-report2 .ensures, damaged-number (λ j. []) 0 0 _ (d .before .before .pre) (sym (d .survey-area .ensures) ∙ c .before .enum-told2 .given .1))
+    rw (c .refuse-report2 .ensures, damaged-number (λ j. []) 0 0 _ (d .before .before .pre) (sym (d .survey-area .ensures .found-is) ∙ c .before .enum-told2 .given .1))
 
 returns-3 : tie.Need-returns-3
 unfolding reportIn reportChecks reportOf surveyOf countsOf flaggedOf

@@ -122,7 +122,7 @@ returns-2 c =
     let e = d .before .before .before in
     let start = e .before .before .before .before .args in
     keeps (Withdraw (start .place) (start .day) (start .value)) (start .register .now) (e .before .check-place .ensures) (e .if1 .left)
-    (stays _ _ _ (sym (d .decide-withdrawal .ensures) ∙ c .before .before .number .given .1) (c .refuse2 .ensures))
+    (stays _ _ _ (sym (d .decide-withdrawal .ensures .decision-is) ∙ c .before .before .number .given .1) (c .refuse2 .ensures))
 
 same-length-3 : tie.Need-same-length-3
 same-length-3 c = search needs
@@ -137,7 +137,7 @@ returns-3 c =
     let e = d .before .before .before in
     let start = e .before .before .before .before .args in
     writes (Withdraw (start .place) (start .day) (start .value)) (start .register .now) (e .before .check-place .ensures) (e .if1 .left)
-    (withdraws _ _ _ (sym (d .decide-withdrawal .ensures) ∙ b .v .given .1) (w .withdrawn-answer .ensures) (m .before .is-there .ensures) (m .mark-withdrawn .ensures))
+    (withdraws _ _ _ (sym (d .decide-withdrawal .ensures .decision-is) ∙ b .v .given .1) (w .withdrawn-answer .ensures) (m .before .is-there .ensures) (m .mark-withdrawn .ensures))
 
 pub withdraw-spec : {M : Type 1} → statement M
 withdraw-spec =
