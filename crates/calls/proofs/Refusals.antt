@@ -12,7 +12,7 @@ use Rattle.terms.specs.Number.{accepted, misfit, noMeter, low, high}
 use Rattle.terms.specs.Entry.{kindHeld}
 use Rattle.terms.specs.Rule.{Rule, rule, firstBroken}
 use Rattle.register.specs.Area.{areaBytes, areasIn, areaOf, withArea}
-use Rattle.register.specs.Head.{entryOffset}
+use Rattle.register.specs.Head.{offsetAfter, entryOffset}
 use Rattle.register.proofs.Areas.{area-length, own-area}
 use Rattle.register.proofs.Back.{entry-below, entry-above}
 use Rattle.journal.specs.Journal.{journalOf, kept}
@@ -79,7 +79,7 @@ module _ (s : Submission) (area : List ℕ) (size : length area ≡ areaBytes) (
   query-area = rw (query-refused _ q, q)
 
   stores-held : StoresHeld s area (submitIn s area .area)
-  unfolding written entryOffset
+  unfolding written entryOffset offsetAfter
   stores-held =
       let here = entryOffset area (kept (journalOf area .entries)) in
       let next = entryOffset area (suc (kept (journalOf area .entries))) in

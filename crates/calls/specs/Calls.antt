@@ -190,13 +190,12 @@ step call register =
 
 -- ---- "Journal (place): hands back the meter's part of the caller's own register, from its start to its last entry's end; length 0 where report
 -- refuses."
+unfoldable pub lengthIn : List ℕ → ℕ
+lengthIn area = cond (eqb (firstBroken (reportChecks area)) accepted) (entryOffset area (entryCount area)) 0
+
 unfoldable pub journalLength : ℕ → List ℕ → ℕ
 journalLength place register =
-    cond (eqb (placeNumber place register) accepted)
-    (cond (eqb (firstBroken (reportChecks (areaOf place register))) accepted)
-    (entryOffset (areaOf place register) (entryCount (areaOf place register)))
-    0)
-    0
+    cond (eqb (placeNumber place register) accepted) (lengthIn (areaOf place register)) 0
 
 unfoldable pub journalPart : ℕ → List ℕ → List ℕ
 journalPart place register = take (journalLength place register) (drop (areaBytes * place) register)

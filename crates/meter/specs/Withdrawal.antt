@@ -19,7 +19,7 @@ use Rattle.meter.specs.declared.withdraw.Decided.the-variants.{Refused, 
 -- the paper's number and values for a decision: a refusal, or the last read's flag and its advance negated
 unfoldable pub decidedAnswer : Decided → Answer
 decidedAnswer (Refused number) = refusal number
-decidedAnswer (Taken v) = withdrawnAnswer (v .dials) (v .recent .last) (v .recent .second)
+decidedAnswer (Taken v) = withdrawnAnswer (v .head .dials) (v .recent .last) (v .recent .second)
 
 -- a refusal, or the journal that the call is to change
 unfoldable pub withdrawDecided : ℕ → ℕ → List ℕ → Decided

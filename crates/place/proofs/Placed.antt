@@ -33,6 +33,11 @@ past : (b : Bool) (n m : ℕ) → cond b (suc n) m ≡ 0 → (b ≡ false) × (m
 past true n m h = absurd (let z : suc n ≡ 0 = h in let f : ⊥ = omega arith in f)
 past false n m h = (refl, h)
 
+-- ---- a place that is refused
+pub is-refused : (p : ℕ) (register : List ℕ) {number : ℕ} → located p register ≡ Refused number → eqb (placeNumber p register) accepted ≡ false
+unfolding located
+is-refused p register e = refused-if (eqb (placeNumber p register) accepted) _ _ e .0
+
 -- ---- a place that the register has
 module _ (p : ℕ) (register : List ℕ) {start : ℕ} (e : located p register ≡ At start) where
   pub is-accepted : placeNumber p register ≡ accepted

@@ -11,7 +11,7 @@ use Rattle.register.specs.declared.head.Head.{Head}
 use Rattle.register.specs.Area.{areaBytes}
 use Rattle.register.specs.Bytes.{byteAt, putWord, putLong}
 use Rattle.register.specs.Entries.{entryBytes, entryStart, putEntry}
-use Rattle.register.specs.Head.{meterBytes, headOf, putHead, headBytes, mostEntries, bodyOf, entryOffset}
+use Rattle.register.specs.Head.{meterBytes, headOf, putHead, headBytes, mostEntries, bodyOf, offsetAfter, entryOffset}
 use Rattle.register.proofs.Back.{same-byte, same-long, entry-below, head-above}
 
 -- ---- sizes
@@ -28,6 +28,10 @@ most-byte head = omega arith
 pub head-some : (head : Head) → 0 < headBytes head
 unfolding headBytes
 head-some head = omega arith
+
+-- a head is no longer than an area
+pub head-small : (head : Head) → headBytes head ≤ areaBytes
+head-small head = omega (arith, head-room head)
 
 pub body-length : (a : List ℕ) → length a ≡ areaBytes → headBytes (headOf a) + length (bodyOf a) ≡ areaBytes
 unfolding bodyOf
@@ -85,7 +89,7 @@ drop-entry n a i e = simp (add-assoc, drop-set-add, drop-word, drop-long)
 -- ---- an entry written, or given another kind, in the body
 module _ (a : List ℕ) (k : ℕ) (e : Entry) where
   below : take (headBytes (headOf a)) (putEntry a (entryOffset a k) e) ≡ take (headBytes (headOf a)) a
-  unfolding entryOffset
+  unfolding entryOffset offsetAfter
   below = entry-below a (headBytes (headOf a) + entryStart k) e (headBytes (headOf a)) (omega arith)
 
   pub entry-head : headOf (putEntry a (entryOffset a k) e) ≡ headOf a
@@ -95,12 +99,12 @@ module _ (a : List ℕ) (k : ℕ) (e : Entry) where
   entry-head-kind = same-kind a (putEntry a (entryOffset a k) e) below
 
   pub entry-body : bodyOf (putEntry a (entryOffset a k) e) ≡ putEntry (bodyOf a) (entryStart k) e
-  unfolding entryOffset bodyOf
+  unfolding entryOffset offsetAfter bodyOf
   entry-body = same-body a (putEntry a (entryOffset a k) e) below ∙ drop-entry (headBytes (headOf a)) a (entryStart k) e
 
 module _ (a : List ℕ) (k kind : ℕ) where
   set-below : take (headBytes (headOf a)) (set a (entryOffset a k) kind) ≡ take (headBytes (headOf a)) a
-  unfolding entryOffset
+  unfolding entryOffset offsetAfter
   set-below = take-set-le (headBytes (headOf a)) a (headBytes (headOf a) + entryStart k) kind (omega arith)
 
   pub kind-head : headOf (set a (entryOffset a k) kind) ≡ headOf a
@@ -110,10 +114,10 @@ module _ (a : List ℕ) (k kind : ℕ) where
   kind-head-kind = same-kind a (set a (entryOffset a k) kind) set-below
 
   pub kind-body : bodyOf (set a (entryOffset a k) kind) ≡ set (bodyOf a) (entryStart k) kind
-  unfolding entryOffset bodyOf
+  unfolding entryOffset offsetAfter bodyOf
   kind-body = same-body a (set a (entryOffset a k) kind) set-below ∙ drop-set-add (headBytes (headOf a)) a (entryStart k) kind
 
 -- ---- areas with one head have their entries at the same bytes
 pub same-offset : (a b : List ℕ) (k : ℕ) → headOf b ≡ headOf a → entryOffset b k ≡ entryOffset a k
-unfolding entryOffset
+unfolding entryOffset offsetAfter
 same-offset a b k h = rw h

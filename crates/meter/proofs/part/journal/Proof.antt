@@ -10,29 +10,39 @@ use lib.Dec.{eqb}
 use lib.ListN.{length}
 use Rattle.terms.specs.Number.{accepted}
 use Rattle.terms.specs.Rule.{firstBroken}
-use Rattle.register.specs.Area.{areaBytes, areas, areaOf}
-use Rattle.register.specs.Entries.{entryStart}
-use Rattle.journal.specs.Journal.{entryCount}
+use Rattle.register.specs.Area.{areaBytes, areaOf}
+use Rattle.register.specs.Head.{headOf, offsetAfter, entryOffset}
+use Rattle.register.proofs.Body.{head-room}
 use Rattle.journal.proofs.Entries.{count-at-most}
 use Rattle.calls.specs.Checks.{reportChecks}
-use Rattle.calls.specs.Calls.{placeNumber, journalLength, journalPart}
-use Rattle.meter.proofs.Placed.{placed}
+use Rattle.calls.specs.Calls.{placeNumber, lengthIn, journalLength, journalPart}
+use Rattle.calls.proofs.Bools.{by-test}
+use Rattle.place.specs.declared.Located.the-variants.{At}
+use Rattle.place.specs.Located.{located}
+use Rattle.place.proofs.Placed.{has-area}
 use borrow.Author.Needs.{needs}
 use Rattle.meter.proofs.part.journal.Statement.{statement}
 use Rattle.meter.proofs.part.journal.Tie as tie
 
-some : (placed reported : Bool) (n : ℕ) → cond placed (cond reported n 0) 0 ≢ 0 → (placed ≡ true) × (cond placed (cond reported n 0) 0 ≡ n)
-some true true n h = (refl, refl)
-some true false n h = absurd (h refl)
-some false reported n h = absurd (h refl)
+some : (placed : Bool) (n : ℕ) → cond placed n 0 ≢ 0 → (placed ≡ true) × (cond placed n 0 ≡ n)
+some true n h = (refl, refl)
+some false n h = absurd (h refl)
 
-within : (p : ℕ) (register : List ℕ) {size : ℕ} → size ≡ journalLength p register → size ≢ 0 → (areaBytes * p + size ≤ length register) × (p < areas) × (size ≤ areaBytes)
-unfolding journalLength
+-- a journal lies within its area
+length-at-most : (area : List ℕ) → lengthIn area ≤ areaBytes
+unfolding lengthIn entryOffset offsetAfter
+length-at-most area =
+    by-test (eqb (firstBroken (reportChecks area)) accepted)
+    (λ h. rw h (omega (arith, count-at-most area, head-room (headOf area))))
+    (λ h. rw h (omega arith))
+
+within : (p : ℕ) (register : List ℕ) {size : ℕ} → size ≡ journalLength p register → size ≢ 0 → areaBytes * p + size ≤ length register
+unfolding journalLength located
 within p register e h =
     let area = areaOf p register in
-    let s = some (eqb (placeNumber p register) accepted) (eqb (firstBroken (reportChecks area)) accepted) (entryStart (entryCount area)) (λ z. h (e ∙ z)) in
-    let there = placed p register refl (eqb-true _ _ (s .0)) in
-    omega (arith, there, e, s .1, count-at-most area)
+    let s = some (eqb (placeNumber p register) accepted) (lengthIn area) (λ z. h (e ∙ z)) in
+    let there : located p register ≡ At (areaBytes * p) = rw (s .0) in
+    omega (arith, has-area p register there, e, s .1, length-at-most area)
 
 journal-length-requires : tie.Need-journal-length-requires
 journal-length-requires c κs = search needs

@@ -56,7 +56,7 @@ unfolding reportIn reportChecks reportOf surveyOf countsOf flaggedOf
 returns-3 c =
     let found = c .before .before .before .before .before in
     let d = found .before .before in
-    let sound = sound-number (λ j. []) 0 0 _ (d .before .before .pre) (sym (d .survey-area .ensures) ∙ found .v .given .1) in
+    let sound = sound-number (λ j. []) 0 0 _ (d .before .before .pre) (sym (d .survey-area .ensures .found-is) ∙ found .v .given .1) in
     let total = toZ-ofZ w64 _ (sfits-of (c .total .ok)) ∙ c .total .ensures 0 0 _ (sound .0) in
     rw (total, sound .1, sound .0)
 
