@@ -31,7 +31,7 @@ fn the_c_example_builds_and_prints_its_answer() {
         .arg(root.join("c/example.c"))
         .arg("-I")
         .arg(root.join("c"))
-        .arg(root.join("target/staticlib/libboundary.a"))
+        .arg(root.join("target/staticlib/libnecktureen.a"))
         .status()
         .expect("gcc runs");
     assert!(built.success());
