@@ -10,7 +10,7 @@
  * from each other and from all else that is lent. No pointer is kept, nothing is allocated, and nothing is remembered
  * between calls: calls on different registers may run at the same time, calls on one register one at a time.
  *
- * Widths: compile with -Wconversion. C cuts an argument that is too wide without a word: place 65537 in an int becomes
+ * Widths: compile with -Wconversion. C cuts an argument that is too wide, silently: place 65537 in an int becomes
  * place 1, and day 66536 becomes day 1000. A place or day that was not cut, however wrong, gets its number.
  *
  * What stays: a register's bytes are the file format, and a register that one version wrote is read by the next.

@@ -4,8 +4,7 @@ use necktureen::{indicator, letter, Answer, Call, Number, Reply, Submission, ARE
 use std::collections::BTreeMap;
 use std::fmt::Write as _;
 
-/// The numbers that calls answer; 26 is a sheet's.
-const NUMBERS: usize = Number::Sheet as usize;
+const NUMBERS: usize = Number::ALL.len();
 const PLACES: usize = REGISTER_BYTES / AREA_BYTES;
 
 /// How often each number was answered, and each state that takes a long way to reach.
@@ -122,9 +121,14 @@ impl Tally {
         }
     }
 
+    /// Each number that calls answer, which 26 is not, with how often it was.
+    fn answered(&self) -> impl Iterator<Item = (Number, u64)> + '_ {
+        Number::ALL.iter().copied().zip(self.numbers).filter(|row| row.0 != Number::Sheet)
+    }
+
     pub fn table(&self) -> String {
         let mut text = String::new();
-        for (number, count) in Number::ALL.iter().zip(self.numbers) {
+        for (number, count) in self.answered() {
             let _ = writeln!(text, "{count:>9}  {number}");
         }
         for (name, count) in &self.deep {
@@ -135,8 +139,8 @@ impl Tally {
 
     /// What was never reached.
     pub fn unseen(&self) -> Vec<String> {
-        let numbers = self.numbers.iter().enumerate().filter(|(_, &count)| count == 0);
-        let deep = self.deep.iter().filter(|(_, &count)| count == 0);
-        numbers.map(|(number, _)| number.to_string()).chain(deep.map(|(name, _)| name.to_string())).collect()
+        let numbers = self.answered().filter(|row| row.1 == 0).map(|row| row.0.to_string());
+        let deep = self.deep.iter().filter(|row| *row.1 == 0).map(|row| row.0.to_string());
+        numbers.chain(deep).collect()
     }
 }
