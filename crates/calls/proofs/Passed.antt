@@ -4,12 +4,10 @@ use mathlib.Core.Bool.{Bool, true, false, not, cond, _&&_, _||_}
 use mathlib.Core.List.{List, [], _∷_}
 use Prim.Native.Nat.{ℕ, _≤_}
 use native.Mathlib.Omega.{arith}
-use borrow.Author.Tests.{eqb-false, ltb-false, leb-false, lt-ltb, le-leb, eq-eqb, not-true, not-false}
+use borrow.Author.Tests.{eqb-false, ltb-false, leb-false, lt-ltb, le-leb, eq-eqb, not-false}
 use lib.Dec.{eqb, leb, ltb}
 use Rattle.arithmetic.specs.Powers.{tenTo}
 use Rattle.terms.specs.declared.entry.Entry.{Entry}
-use Rattle.terms.specs.declared.entry.Slot.{Slot}
-use Rattle.terms.specs.declared.entry.Slot.the-variants.{Read, Empty}
 use Rattle.terms.specs.declared.entry.Recent.{Recent}
 use Rattle.terms.specs.declared.submission.Submission.{Submission}
 use Rattle.terms.specs.Letter.{letterI, letterO, letterF, letterC, letterU, letterR, letterT, letterS, letterX, letterY, letterE, isKnown, isOpening, isFinal, isHoldable, isUnchecked}
@@ -19,14 +17,15 @@ use Rattle.rules.specs.declared.detection.Detected.{Detected}
 use Rattle.rules.specs.declared.detection.Detected.the-variants.{NotRollover, Rollover, Indeterminate}
 use Rattle.rules.specs.Detection.{isNotRollover, detected}
 use Rattle.rules.specs.Indicator.{indicated, indicatedFlag}
-use Rattle.rules.specs.Volume.{hasVolumeCheck, hasThreshold, isBelowThreshold, isAboveThreshold, isLowVolume, isHighVolume}
+use Rattle.rules.specs.Volume.{isLowVolume, isHighVolume}
+use Rattle.rules.proofs.Queries.{query}
 use Rattle.journal.specs.Journal.{Journal, journalOf, standing, isThere, onDay}
 use Rattle.journal.specs.Numbers.{areaRules}
 use Rattle.journal.specs.Sound.{any, holds, takes, opens, isInRange, isFinalRead, exists, isSound}
 use Rattle.journal.specs.Inner.Follow.{isAfter, mayStand}
 use Rattle.calls.specs.Checks.{isBadContent, isBadDate, isWithdrawnRead, isBackDated, isUnopened, isATLater, isOpeningIndicated, isFull, indicatedIn, takenFlag, recent, sameDay, contentRules, sameDayRules, orderRules, indicatorRules, volumeRules, submitRules, submitChecks}
 use Rattle.calls.specs.Calls.{entryFor}
-use Rattle.calls.proofs.Bools.{both, together, neither, either-of, right-or, apart, by-test}
+use Rattle.calls.proofs.Bools.{together, neither, right-or, apart, by-test}
 use Rattle.calls.proofs.Broken.{Unbroken, haveOthers, past-group}
 
 -- ---- the rules before those of volume
@@ -173,34 +172,16 @@ known-holdable l k u =
     (rw (u₁ .0, u₂ .0, u₂ .1) at k)
 
 module _ (s : Submission) (n flag : ℕ) where
-  threshold-checked : (y : Bool) → hasThreshold s && y ≡ true → isUnchecked (s .letter) ≡ false
-  unfolding hasThreshold hasVolumeCheck
-  threshold-checked y h = not-true _ (both (not (isUnchecked (s .letter))) _ (both (hasThreshold s) y h .0) .0)
-
-  low-exists : (last second : Slot) → isBelowThreshold n s flag last second ≡ true → isThere last ≡ true
-  unfolding isBelowThreshold isThere
-  low-exists Empty second h = h
-  low-exists (Read r) second h = refl
-
-  high-exists : (last second : Slot) → isAboveThreshold n s flag last second ≡ true → isThere last ≡ true
-  unfolding isAboveThreshold isThere
-  high-exists Empty second h = h
-  high-exists (Read r) second h = refl
-
   -- either query
   abbrev pub IsQuery : Recent → Type 0
   IsQuery recent = isLowVolume n s flag recent || isHighVolume n s flag recent ≡ true
 
   pub query-checked : (recent : Recent) → IsQuery recent → isUnchecked (s .letter) ≡ false
-  unfolding isLowVolume isHighVolume
-  query-checked recent h = either-of (isLowVolume n s flag recent) _ h (threshold-checked _) (threshold-checked _)
+  query-checked recent h = query n s flag recent h .checked
 
   pub query-exists : (recent : Recent) → IsQuery recent → isThere (recent .last) ≡ true
-  unfolding isLowVolume isHighVolume
-  query-exists recent h =
-      either-of (isLowVolume n s flag recent) _ h
-      (λ t. low-exists (recent .last) (recent .second) (both (hasThreshold s) _ t .1))
-      (λ t. high-exists (recent .last) (recent .second) (both (hasThreshold s) _ t .1))
+  unfolding isThere
+  query-exists recent h = rw (query n s flag recent h .stands)
 
 pub is-after : (s : Submission) (e : Entry) (ss : List Entry) → e .day ≡ s .day → isBackDated s (slotAt ss 0) ≡ false → isThere (onDay (s .day) ss) ≡ false → isThere (slotAt ss 0) ≡ true → isAfter e (slotAt ss 0) ≡ true
 unfolding slotAt isThere isAfter
