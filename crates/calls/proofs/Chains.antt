@@ -98,7 +98,7 @@ zero-take zero l h = refl
 zero-take (suc n) [] h = refl
 zero-take (suc n) (b ∷ l) h = let p = both (eqb b 0) (allZero l) h in ap₂ _&&_ (p .0) (zero-take n l (p .1))
 
-zero-whole : Whole zeroRegister
+pub zero-whole : Whole zeroRegister
 unfolding zeroRegister
 zero-whole = length-replicate {A = ℕ} registerBytes 0
 
