@@ -8,7 +8,8 @@ use lib.Dec.{ltb}
 use lib.IntN.{pos, _+ℤ_, _-ℤ_, +ℤ-idr}
 use borrow.Author.Tests.{ltb-true, lt-ltb, le-ltb}
 use Rattle.arithmetic.specs.Powers.{tenTo}
-use Rattle.arithmetic.specs.Advance.{advanceOf, advanceMost, Within}
+use Rattle.arithmetic.specs.Advance.{advanceOf}
+use Rattle.arithmetic.specs.Inner.Bounds.{advanceMost, Within}
 use Rattle.arithmetic.proofs.Signed.{within-difference, within-sum, within-pos}
 
 pub in-table : {n : ℕ} → n < 10 → tenTo n ≡ 10 ^ n

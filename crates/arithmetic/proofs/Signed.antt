@@ -11,7 +11,7 @@ use lib.Signed.{mag}
 use mir.Syntax.{w64}
 use mir.Val.{SFits, toZ, ofZ}
 use mir.ValLaws.{toZ-pos, toZ-ofZ}
-use Rattle.arithmetic.specs.Advance.{Within}
+use Rattle.arithmetic.specs.Inner.Bounds.{Within}
 
 -- ---- the size of a sum, a difference, a product
 cond-at-most : (t : Bool) (x y : ℤ) (m : ℕ) → (T t → natAbs x ≤ m) → natAbs y ≤ m → natAbs (cond t x y) ≤ m

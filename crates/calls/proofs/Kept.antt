@@ -17,9 +17,13 @@ use Rattle.calls.specs.declared.call.Call.{Call}
 use Rattle.calls.specs.declared.call.Call.the-variants.{Enrol, Submit, Withdraw, Report as ReportCall}
 use Rattle.calls.specs.Checks.{enrolChecks, submitChecks, withdrawChecks}
 use Rattle.calls.specs.Calls.{isVolumeQuery, plateOf, enrolIn, submitIn, withdrawIn, act}
-use Rattle.calls.specs.Kept.{isGood, GoodArea}
+use Rattle.calls.specs.Kept.{isGood}
 use Rattle.calls.proofs.Bools.{right-or, by-test}
 use Rattle.calls.proofs.Acted.{enrolment, enrol-unchanged, submission, volume-query, submit-unchanged, withdrawal-in, withdraw-unchanged, report-unchanged}
+
+pub record GoodArea (a : List ℕ) : Type 0 where
+  pub size : length a ≡ areaBytes
+  pub good : isGood a ≡ true
 
 good-sound : {a : List ℕ} → length a ≡ areaBytes → isSound a ≡ true → GoodArea a
 unfolding isGood

@@ -11,9 +11,9 @@ use Rattle.register.specs.Area.{areasIn, areaOf}
 use Rattle.register.proofs.Areas.{same-areas, area-length}
 use Rattle.calls.specs.declared.call.Call.{Call}
 use Rattle.calls.specs.Calls.{placeOf, step}
-use Rattle.calls.specs.Kept.{isGood, GoodArea, GoodRegister, CallsKeepAreas}
+use Rattle.calls.specs.Kept.{isGood, GoodRegister, CallsKeepAreas}
 use Rattle.calls.proofs.Bools.{by-test}
-use Rattle.calls.proofs.Kept.{keeps}
+use Rattle.calls.proofs.Kept.{GoodArea, keeps}
 use Rattle.calls.proofs.Frame.{room, own-area-after, step-whole, other-area}
 use Rattle.calls.proofs.Known.{local}
 

@@ -9,7 +9,7 @@ use lib.Dec.{eqb}
 use Rattle.terms.specs.declared.entry.Entry.{Entry}
 use Rattle.journal.specs.Sound.{every, any, hasRead, isApartFrom, areApart}
 use Rattle.calls.proofs.Bools.{both, either-of, left-or, right-or, apart}
-use Rattle.calls.specs.Ledger.{Named, named, isSame, takeOut, isAmong, areNoneOf}
+use Rattle.calls.specs.Ledger.{Named, named, isSameRead, takeOut, isAmong, areNoneOf}
 use Rattle.calls.specs.DemandThree.{namesOf}
 
 -- ---- the same read
@@ -22,13 +22,13 @@ module _ (day value : ℕ) (e : Entry) where
   unfolding hasRead
   is-read d v = ap₂ _&&_ (eq-eqb _ _ d) (eq-eqb _ _ v)
 
-same-is : (a b : Named) → isSame a b ≡ true → (a .day ≡ b .day) × (a .value ≡ b .value)
-unfolding isSame
+same-is : (a b : Named) → isSameRead a b ≡ true → (a .day ≡ b .day) × (a .value ≡ b .value)
+unfolding isSameRead
 same-is a b h = let p = both (eqb (a .day) (b .day)) (eqb (a .value) (b .value)) h in (eqb-true _ _ (p .0), eqb-true _ _ (p .1))
 
 -- the newest read, named, is the one that is taken out
 pub take-newest : (day value : ℕ) (e : Entry) (ss : List Entry) → hasRead day value e ≡ true → takeOut (named day value) (namesOf (e ∷ ss)) ≡ namesOf ss
-unfolding takeOut namesOf isSame
+unfolding takeOut namesOf isSameRead
 take-newest day value e ss h =
     let r = read-is day value e h in
     rw (eq-eqb day (e .day) (sym (r .0)), eq-eqb value (e .value) (sym (r .1)))
@@ -75,6 +75,6 @@ pub withdrawn-more : (day value : ℕ) (names : List Named) (ws ws′ : List Ent
     → AreWithdrawn (named day value ∷ names) ws′
 unfolding isAmong
 withdrawn-more day value names ws ws′ w keeps has d v t =
-    either-of (isSame (named d v) (named day value)) (isAmong (named d v) names) t
+    either-of (isSameRead (named d v) (named day value)) (isAmong (named d v) names) t
     (λ here. let s = same-is (named d v) (named day value) here in rw (s .0, s .1) has)
     (λ there. keeps d v (w d v there))

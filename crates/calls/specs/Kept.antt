@@ -4,7 +4,7 @@ use mathlib.Core.Bool.{Bool, true, _||_}
 use mathlib.Core.List.{List}
 use Prim.Native.Nat.{ℕ, _<_}
 use lib.ListN.{length}
-use Rattle.register.specs.Area.{areaBytes, areasIn, registerBytes, areaOf}
+use Rattle.register.specs.Area.{areasIn, registerBytes, areaOf}
 use Rattle.journal.specs.Journal.{allZero}
 use Rattle.journal.specs.Sound.{isSound}
 use Rattle.calls.specs.declared.call.Call.{Call}
@@ -13,10 +13,6 @@ use Rattle.calls.specs.Calls.{step}
 -- all zero ("not enrolled") or sound
 unfoldable pub isGood : List ℕ → Bool
 isGood a = allZero a || isSound a
-
-pub record GoodArea (a : List ℕ) : Type 0 where
-  pub size : length a ≡ areaBytes
-  pub good : isGood a ≡ true
 
 -- a register of such areas
 pub record GoodRegister (register : List ℕ) : Type 0 where

@@ -20,13 +20,13 @@ pub record Named : Type 0 where
 abbrev pub named : ℕ → ℕ → Named
 named day value = record { day = day; value = value }
 
-unfoldable pub isSame : Named → Named → Bool
-isSame a b = eqb (a .day) (b .day) && eqb (a .value) (b .value)
+unfoldable pub isSameRead : Named → Named → Bool
+isSameRead a b = eqb (a .day) (b .day) && eqb (a .value) (b .value)
 
 -- "takes out the read of its day and value"
 unfoldable pub takeOut : Named → List Named → List Named
 takeOut r [] = []
-takeOut r (s ∷ ss) = cond (isSame r s) ss (s ∷ takeOut r ss)
+takeOut r (s ∷ ss) = cond (isSameRead r s) ss (s ∷ takeOut r ss)
 
 -- What a meter's accepted calls come to. The lists have the newest first, so that the paper's end of a list is its front.
 pub record Ledger : Type 0 where
@@ -119,7 +119,7 @@ lastLessFirst (s ∷ ss) = pos (s .value) -ℤ pos (firstValueOf s ss)
 
 unfoldable pub isAmong : Named → List Named → Bool
 isAmong r [] = false
-isAmong r (s ∷ ss) = isSame r s || isAmong r ss
+isAmong r (s ∷ ss) = isSameRead r s || isAmong r ss
 
 -- no read of the first list is in the second
 unfoldable pub areNoneOf : List Named → List Named → Bool

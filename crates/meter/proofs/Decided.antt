@@ -12,7 +12,8 @@ use Rattle.calls.specs.Checks.{withdrawChecks}
 use Rattle.calls.specs.Calls.{withdrawIn}
 use Rattle.calls.proofs.Bools.{by-test}
 use Rattle.meter.specs.declared.withdraw.Decided.{Decided}
-use Rattle.meter.specs.Withdrawal.{decidedAnswer, withdrawDecided, Decides}
+use Rattle.meter.specs.Withdrawal.{decidedAnswer}
+use Rattle.meter.specs.Inner.Withdrawal.{withdrawDecided, Decides}
 
 answers : (day value : ℕ) (area : List ℕ) → Answered (decidedAnswer (withdrawDecided day value area)) ≡ withdrawIn day value area .reply
 unfolding withdrawDecided withdrawIn decidedAnswer surveyOf recentOf

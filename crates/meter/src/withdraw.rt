@@ -9,7 +9,7 @@ ghost use Rattle.journal.specs.Journal.{Journal};
 ghost use Rattle.journal.specs.Inner.Survey.{surveyOf};
 ghost use Rattle.calls.specs.Checks.{isNotLast, withdrawRules};
 ghost use Rattle.calls.specs.Calls.{acted, withdrawnAnswer, withdrawnBytes, withdrawIn, done, step};
-ghost use Rattle.meter.specs.Withdrawal.{Decides};
+ghost use Rattle.meter.specs.Inner.Withdrawal.{Decides};
 use arithmetic::advance::advance;
 use calls::call::Call;
 use calls::call::Reply;

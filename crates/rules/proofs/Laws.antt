@@ -9,7 +9,8 @@ use mir.Syntax.{w64}
 use mir.Val.{SFits, toZ, ofZ}
 use mir.ValLaws.{toZ-ofZ, toZ-pos}
 use Rattle.arithmetic.specs.Powers.{tenTo}
-use Rattle.arithmetic.specs.Advance.{advanceOf, advanceMost, Within}
+use Rattle.arithmetic.specs.Advance.{advanceOf}
+use Rattle.arithmetic.specs.Inner.Bounds.{advanceMost, Within}
 use Rattle.arithmetic.proofs.Laws.{ten-at-most, advance-within}
 use Rattle.arithmetic.proofs.Signed.{Word, word-cast, word-of, word-product, fits-product}
 use Rattle.rules.specs.Settings.{fraction}

@@ -139,19 +139,19 @@ numberAt e = cond (eqb (indicatedNumber taken) accepted) (volumeNumber dials (e 
     recent : Recent
     recent = recentOf (standingReads (e .spacing) (e .standing))
 
-abbrev pub isSame : Detected → Detected → Bool
-isSame NotRollover NotRollover = true
-isSame NotRollover Rollover = false
-isSame NotRollover Indeterminate = false
-isSame Rollover NotRollover = false
-isSame Rollover Rollover = true
-isSame Rollover Indeterminate = false
-isSame Indeterminate NotRollover = false
-isSame Indeterminate Rollover = false
-isSame Indeterminate Indeterminate = true
+abbrev pub isSameFinding : Detected → Detected → Bool
+isSameFinding NotRollover NotRollover = true
+isSameFinding NotRollover Rollover = false
+isSameFinding NotRollover Indeterminate = false
+isSameFinding Rollover NotRollover = false
+isSameFinding Rollover Rollover = true
+isSameFinding Rollover Indeterminate = false
+isSameFinding Indeterminate NotRollover = false
+isSameFinding Indeterminate Rollover = false
+isSameFinding Indeterminate Indeterminate = true
 
 unfoldable pub holdsAt : Edge → Bool
-holdsAt e = isSame (detectedAt e) (e .says) && eqb (numberAt e) (e .number)
+holdsAt e = isSameFinding (detectedAt e) (e .says) && eqb (numberAt e) (e .number)
 
 unfoldable pub holdAt : List Edge → Bool
 holdAt [] = true

@@ -1,6 +1,6 @@
 // The one product by which daily rates are compared.
 ghost use mathlib.Core.Path.{_≡_};
-ghost use Rattle.arithmetic.specs.Advance.{Within, advanceMost};
+ghost use Rattle.arithmetic.specs.Inner.Bounds.{Within, advanceMost};
 ghost use Rattle.rules.specs.Detection.{scaledOf};
 
 // k × a × (later − earlier).

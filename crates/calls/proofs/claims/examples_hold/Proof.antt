@@ -5,13 +5,13 @@ use Rattle.journal.specs.Sound.{any, hasRead}
 use Rattle.calls.specs.Calls.{placeOf}
 use Rattle.calls.specs.Checks.{isWithdrawnRead}
 use Rattle.calls.specs.Play.{numberOf, names, mayChange, isPicked, picked}
-use Rattle.calls.specs.Ledger.{isSame, takeOut, emptyLedger, flagOf, entered, isAccepted, ledgerAfter, ledgerOf, hasAccepted, isEnrolment, hasEnrolment, firstValueOf, lastLessFirst, isAmong, areNoneOf}
+use Rattle.calls.specs.Ledger.{isSameRead, takeOut, emptyLedger, flagOf, entered, isAccepted, ledgerAfter, ledgerOf, hasAccepted, isEnrolment, hasEnrolment, firstValueOf, lastLessFirst, isAmong, areNoneOf}
 use Rattle.calls.specs.Examples.{year, ExamplesHold}
 use Rattle.calls.proofs.claims.examples_hold.Statement.{statement}
 use Rattle.calls.proofs.claims.examples_hold.Tie as tie
 
 returns : tie.Need-returns
-unfolding isWithdrawn those any hasRead placeOf isWithdrawnRead numberOf names mayChange isPicked picked isSame takeOut emptyLedger flagOf entered isAccepted ledgerAfter ledgerOf hasAccepted isEnrolment hasEnrolment firstValueOf lastLessFirst isAmong areNoneOf year
+unfolding isWithdrawn those any hasRead placeOf isWithdrawnRead numberOf names mayChange isPicked picked isSameRead takeOut emptyLedger flagOf entered isAccepted ledgerAfter ledgerOf hasAccepted isEnrolment hasEnrolment firstValueOf lastLessFirst isAmong areNoneOf year
 returns c =
     record {
       report-picked = refl;

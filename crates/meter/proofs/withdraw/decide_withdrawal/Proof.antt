@@ -6,7 +6,7 @@ use Rattle.journal.specs.Journal.{journalOf}
 use Rattle.journal.specs.Inner.Survey.{surveyOf}
 use Rattle.meter.specs.declared.withdraw.Decided.the-variants.{Taken}
 use Rattle.calls.specs.Checks.{withdrawRules, withdrawChecks}
-use Rattle.meter.specs.Withdrawal.{withdrawDecided}
+use Rattle.meter.specs.Inner.Withdrawal.{withdrawDecided}
 use Rattle.meter.proofs.Judged.{zero-number, damaged-number, sound-number}
 use Rattle.meter.proofs.Decided.{decides}
 use borrow.Author.Needs.{needs}

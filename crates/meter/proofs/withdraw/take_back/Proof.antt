@@ -6,7 +6,8 @@ use lib.IntN.{ℤ, pos, negℤ, _-ℤ_, +ℤ-idl}
 use mir.Syntax.{w64}
 use mir.Val.{SFits, toZ, ofZ}
 use mir.ValLaws.{toZ-ofZ}
-use Rattle.arithmetic.specs.Advance.{advanceOf, advanceMost}
+use Rattle.arithmetic.specs.Advance.{advanceOf}
+use Rattle.arithmetic.specs.Inner.Bounds.{advanceMost}
 use Rattle.arithmetic.proofs.Signed.{Word, within-negated, within-fits}
 use Rattle.rules.specs.Volume.{advanceOver}
 use Rattle.rules.proofs.Laws.{AdvanceWord, advance-word}

@@ -17,7 +17,7 @@ use Rattle.calls.specs.declared.call.Reply.the-variants.{Answered}
 use Rattle.calls.specs.Checks.{withdrawChecks}
 use Rattle.calls.specs.Calls.{acted, withdrawnAnswer, withdrawnBytes, withdrawIn}
 use Rattle.meter.specs.declared.withdraw.Decided.the-variants.{Refused, Taken}
-use Rattle.meter.specs.Withdrawal.{withdrawDecided}
+use Rattle.meter.specs.Inner.Withdrawal.{withdrawDecided}
 use borrow.Author.Needs.{needs}
 use Rattle.meter.proofs.withdraw.withdraw_in.Statement.{statement}
 use Rattle.meter.proofs.withdraw.withdraw_in.Tie as tie
