@@ -15,9 +15,10 @@ use Rattle.register.proofs.Areas.{area-room, area-length, own-area}
 use Rattle.calls.specs.declared.call.Call.{Call}
 use Rattle.calls.specs.declared.call.Reply.{Reply}
 use Rattle.calls.specs.Calls.{isMisfit, isNoPlace, placeNumber, placeOf, refusalOf, acted, act, done, onArea, step}
+use Rattle.calls.proofs.Bools.{by-test}
 use Rattle.place.specs.declared.Located.{Located}
 use Rattle.place.specs.declared.Located.the-variants.{Refused, At}
-use Rattle.place.specs.Located.{located}
+use Rattle.place.specs.Located.{located, locatedNumber, Locates}
 
 -- ---- the two cases
 refused-if : (accepts : Bool) (start n : ℕ) {number : ℕ} → cond accepts (At start) (Refused n) ≡ Refused number → (accepts ≡ false) × (n ≡ number)
@@ -32,6 +33,15 @@ at-if false start n e = (cc, cc)
 past : (b : Bool) (n m : ℕ) → cond b (suc n) m ≡ 0 → (b ≡ false) × (m ≡ 0)
 past true n m h = absurd (let z : suc n ≡ 0 = h in let f : ⊥ = omega arith in f)
 past false n m h = (refl, h)
+
+-- ---- what is found has the number of the first checks
+by-number : (number start : ℕ) → locatedNumber (cond (eqb number accepted) (At start) (Refused number)) ≡ number
+unfolding locatedNumber
+by-number number start = by-test (eqb number accepted) (λ h. rw h (sym (eqb-true number accepted h))) (λ h. rw h)
+
+pub locates : (p : ℕ) (register : List ℕ) {found : Located} → found ≡ located p register → Locates p register found
+unfolding located
+locates p register e = record { found-is = e; number-is = ap locatedNumber e ∙ by-number (placeNumber p register) (areaBytes * p) }
 
 -- ---- a place that is refused
 pub is-refused : (p : ℕ) (register : List ℕ) {number : ℕ} → located p register ≡ Refused number → eqb (placeNumber p register) accepted ≡ false

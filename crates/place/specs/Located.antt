@@ -1,4 +1,5 @@
 -- 01, The register: "The area of place p (one byte, 0 to 63) starts at 512 × p." What every call checks first, and where its area starts.
+use mathlib.Core.Path.{_≡_}
 use mathlib.Core.Bool.{cond}
 use mathlib.Core.List.{List}
 use Prim.Native.Nat.{ℕ, _*_}
@@ -9,7 +10,6 @@ use Rattle.calls.specs.Calls.{placeNumber}
 use Rattle.place.specs.declared.Located.{Located}
 use Rattle.place.specs.declared.Located.the-variants.{Refused, At}
 
--- the number is that of the calls' first checks
 unfoldable pub located : ℕ → List ℕ → Located
 located place register =
     cond (eqb (placeNumber place register) accepted) (At (areaBytes * place)) (Refused (placeNumber place register))
@@ -18,3 +18,8 @@ located place register =
 unfoldable pub locatedNumber : Located → ℕ
 locatedNumber (Refused number) = number
 locatedNumber (At start) = accepted
+
+-- what is answered: where the area starts or why not, and with it the number of the calls' first checks
+pub record Locates (place : ℕ) (register : List ℕ) (found : Located) : Type 0 where
+  pub found-is : found ≡ located place register
+  pub number-is : locatedNumber found ≡ placeNumber place register

@@ -1,6 +1,5 @@
 // The one way from a register and a place to the area that a call is lent.
-ghost use mathlib.Core.Path.{_≡_};
-ghost use Rattle.place.specs.Located.{located};
+ghost use Rattle.place.specs.Located.{Locates};
 use register::area::Layout;
 use terms::number::Number;
 
@@ -12,7 +11,7 @@ pub enum Located {
 
 // 2 for a register of another length, 3 for a place past its last area.
 pub fn locate(register: &[u8], place: u16) -> Located
-    ensures { λ r. ⌜ r ≡ located place (now (register .entry)) ⌝ }
+    ensures { λ r. ⌜ Locates place (now (register .entry)) r ⌝ }
 {
     if register.len() != Layout::REGISTER_BYTES {
         return Located::Refused(Number::MISFIT);

@@ -11,7 +11,7 @@ use Rattle.meter.proofs.part.journal_length.Tie as tie
 
 -- the register has the area
 here : (c : tie.After-start) → let start = c .before .before .before .before .args in located (start .place) (start .register .now) ≡ At (c .start .given .0 .0)
-here c = sym (c .before .before .locate .ensures) ∙ c .start .given .1
+here c = sym (c .before .before .locate .ensures .found-is) ∙ c .start .given .1
 
 locate-requires : tie.Need-locate-requires
 locate-requires c κs = search needs
@@ -39,7 +39,7 @@ length-in-requires c κs = lent-length _ _ (here (c .before .before))
 
 returns : tie.Need-returns
 unfolding journalLength
-returns c = rw (is-refused _ _ (sym (c .before .before .locate .ensures) ∙ c .enum-told .given .1))
+returns c = rw (is-refused _ _ (sym (c .before .before .locate .ensures .found-is) ∙ c .enum-told .given .1))
 
 returns-2 : tie.Need-returns-2
 unfolding journalLength

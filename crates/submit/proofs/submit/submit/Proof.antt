@@ -12,7 +12,7 @@ use Rattle.submit.proofs.submit.submit.Tie as tie
 
 -- the register has the area
 here : (c : tie.After-start) → let start = c .before .before .before .before .before .args in located (start .place) (start .register .now) ≡ At (c .start .given .0 .0)
-here c = sym (c .before .before .locate .ensures) ∙ c .start .given .1
+here c = sym (c .before .before .locate .ensures .found-is) ∙ c .start .given .1
 
 locate-requires : tie.Need-locate-requires
 locate-requires c κs = search needs
@@ -49,7 +49,7 @@ unfolding placeOf refusalOf
 returns c =
     let l = c .before .before .before .before in
     let start = l .before .before .before .args in
-    rw (c .refuse .ensures) (refuses (Submit (start .place) (start .s)) (start .register .now) (sym (l .locate .ensures) ∙ c .before .before .number .given .1))
+    rw (c .refuse .ensures) (refuses (Submit (start .place) (start .s)) (start .register .now) (sym (l .locate .ensures .found-is) ∙ c .before .before .number .given .1))
 
 same-length-2 : tie.Need-same-length-2
 same-length-2 c = search needs
