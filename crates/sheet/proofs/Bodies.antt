@@ -5,24 +5,49 @@ use mathlib.Core.List.{List}
 use Prim.Native.Nat.{ℕ, _+_, _≤_, _<_}
 use native.Mathlib.Omega.{arith}
 use borrow.Author.Tests.{leb-true, le-leb, lt-leb}
-use lib.Dec.{eqb, leb}
+use lib.Dec.{leb}
 use lib.ListN.{length}
 use Rattle.register.specs.Bytes.{byteAt}
 use Rattle.calls.specs.declared.call.Call.{Call}
+use Rattle.sheet.specs.declared.form.Form.{Form}
+use Rattle.sheet.specs.declared.form.Form.the-variants.{Enrol, Submit, Withdraw, Report}
+use Rattle.sheet.specs.declared.form.Kind.{Kind}
+use Rattle.sheet.specs.declared.form.Kind.the-variants.{Known, Unknown}
 use Rattle.sheet.specs.declared.split.Next.{Next}
 use Rattle.sheet.specs.declared.split.Next.the-variants.{Found, End, Fault}
-use Rattle.sheet.specs.Sheet.{kindEnrol, kindSubmit, kindWithdraw, kindReport, bodyAt, nextAt}
+use Rattle.sheet.specs.Sheet.{bodyBytes, callAt, kindOf, entryAt, nextAt}
 
-module _ (sheet : List ℕ) (at body : ℕ) (call : Call) where
-  pub whole : {found : Call} → at + 1 + body ≤ length sheet → found ≡ call → Found found (at + 1 + body) ≡ bodyAt sheet at body call
-  unfolding bodyAt
-  whole h e = rw (le-leb (at + 1 + body) (length sheet) h, e)
+-- ---- what stands at a position, by its kind
+module _ (sheet : List ℕ) (at : ℕ) where
+  pub past : length sheet ≤ at → End ≡ nextAt sheet at
+  unfolding nextAt
+  past h = rw (le-leb (length sheet) at h)
 
-  pub cut : length sheet < at + 1 + body → Fault ≡ bodyAt sheet at body call
-  unfolding bodyAt
-  cut h = rw (lt-leb (at + 1 + body) (length sheet) h)
+  module _ (before : at < length sheet) where
+    entry : {kind : Kind} → kind ≡ kindOf (byteAt sheet at) → entryAt kind sheet at ≡ nextAt sheet at
+    unfolding nextAt
+    entry e = rw (lt-leb (length sheet) at before, e)
+
+    pub unknown : Unknown ≡ kindOf (byteAt sheet at) → Fault ≡ nextAt sheet at
+    unfolding entryAt
+    unknown e = entry e
+
+    module _ {form : Form} (known : Known form ≡ kindOf (byteAt sheet at)) where
+      pub whole : at + 1 + bodyBytes form ≤ length sheet → Found (callAt form sheet (at + 1)) (at + 1 + bodyBytes form) ≡ nextAt sheet at
+      unfolding entryAt
+      whole h = rw (le-leb (at + 1 + bodyBytes form) (length sheet) h) at (entry known)
+
+      pub cut : length sheet < at + 1 + bodyBytes form → Fault ≡ nextAt sheet at
+      unfolding entryAt
+      cut h = rw (lt-leb (at + 1 + bodyBytes form) (length sheet) h) at (entry known)
 
 -- ---- where the next entry starts
+some-body : (form : Form) → 1 ≤ bodyBytes form
+some-body Enrol = omega arith
+some-body Submit = omega arith
+some-body Withdraw = omega arith
+some-body Report = omega arith
+
 module _ (sheet : List ℕ) (at : ℕ) where
   data Within : Next → Type 0 where
     at-end : Within End
@@ -33,21 +58,15 @@ module _ (sheet : List ℕ) (at : ℕ) where
   pick-within true h k = h refl
   pick-within false h k = k
 
-  body-within : (body : ℕ) (call : Call) → 1 ≤ body → Within (bodyAt sheet at body call)
-  unfolding bodyAt
-  body-within body call h =
-      pick-within (leb (at + 1 + body) (length sheet)) (λ e. before-end (omega arith) (leb-true _ _ e)) at-fault
+  entry-within : (kind : Kind) → Within (entryAt kind sheet at)
+  unfolding entryAt
+  entry-within (Known form) =
+      pick-within (leb (at + 1 + bodyBytes form) (length sheet)) (λ e. before-end (omega (arith, some-body form)) (leb-true _ _ e)) at-fault
+  entry-within Unknown = at-fault
 
   all-within : Within (nextAt sheet at)
   unfolding nextAt
-  all-within =
-      let kind = byteAt sheet at in
-      pick-within (leb (length sheet) at) (λ e. at-end)
-      (pick-within (eqb kind kindEnrol) (λ e. body-within _ _ (omega arith))
-      (pick-within (eqb kind kindSubmit) (λ e. body-within _ _ (omega arith))
-      (pick-within (eqb kind kindWithdraw) (λ e. body-within _ _ (omega arith))
-      (pick-within (eqb kind kindReport) (λ e. body-within _ _ (omega arith))
-      at-fault))))
+  all-within = pick-within (leb (length sheet) at) (λ e. at-end) (entry-within (kindOf (byteAt sheet at)))
 
   found-within : {call : Call} {next : ℕ} → Within (Found call next) → (at + 2 ≤ next) × (next ≤ length sheet)
   found-within (before-end h k) = (h, k)

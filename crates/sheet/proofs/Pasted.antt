@@ -7,7 +7,8 @@ use native.Mathlib.Numerals.{add-one}
 use native.Mathlib.Omega.{arith}
 use lib.ListN.{length, set, take, drop, length-append}
 use lib.Seq.{sets, sets-eq, length-take-le, take-at}
-use Rattle.sheet.specs.Decimal.{putBytes, Put, Room}
+use Rattle.sheet.specs.Play.{putBytes}
+use Rattle.sheet.specs.Inner.Put.{Put, Room}
 
 put-sets : (out : List ℕ) (at : ℕ) (bs : List ℕ) → putBytes out at bs ≡ sets out at bs
 unfolding putBytes

@@ -15,10 +15,10 @@ use Rattle.sheet.specs.declared.play.Progress.{Progress}
 use Rattle.sheet.specs.declared.split.Next.{Next}
 use Rattle.sheet.specs.declared.split.Next.the-variants.{Found, End, Fault}
 use Rattle.sheet.specs.Sheet.{sheetMost, nextAt, Split, goOn, splitFrom, splitOf}
-use Rattle.sheet.specs.Decimal.{putBytes, Put}
-use Rattle.sheet.specs.Line.{faultLine}
-use Rattle.sheet.specs.Play.{linesOf, textFrom, textOf, printedMost}
-use Rattle.sheet.specs.Turn.{state, lineMost, Turned}
+use Rattle.sheet.specs.Inner.Put.{Put}
+use Rattle.sheet.specs.Line.{lineMost, faultLine}
+use Rattle.sheet.specs.Play.{putBytes, linesOf, textFrom, textOf, printedMost}
+use Rattle.sheet.specs.Inner.Turn.{state, Turned}
 use Rattle.sheet.specs.Piece.{restFrom, PlayedFrom, PiecesMakeTheText}
 use Rattle.sheet.proofs.Bodies.{next-within}
 use Rattle.sheet.proofs.Pasted.{put-both}
@@ -46,7 +46,7 @@ module _ (sheet : List ℕ) where
   all-but-one zero at e h = ended sheet at 0 (omega arith) ∙ sym (ended sheet at 1 (omega arith))
   all-but-one (suc size) at e h = enough size at (omega arith)
 
--- ---- what is left from a place on
+-- ---- what is left from a position on
 module _ (sheet : List ℕ) where
   rest-short : (at : ℕ) → length sheet ≤ sheetMost → restFrom sheet at ≡ splitFrom (suc (length sheet)) sheet at
   unfolding restFrom
@@ -153,7 +153,7 @@ module _ (sheet : List ℕ) (start : ℕ) (register₀ out₀ : List ℕ) where
             let fit : lineMost ≤ length out - end = omega (arith, e .1, g .same-out) in
             apart (together (lt-ltb _ _ still) (le-leb _ _ fit)) h
 
--- ---- a place past the end, and an over-long sheet
+-- ---- a position past the end, and an over-long sheet
 module _ {sheet : List ℕ} {start : ℕ} (register : List ℕ) {out : List ℕ} where
   pub none-left : length sheet ≤ start → PlayedFrom sheet start register out (record { at = start; end = 0 }) register out
   none-left h =

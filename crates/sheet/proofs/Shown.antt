@@ -9,24 +9,25 @@ use Rattle.terms.specs.Answer.{answer}
 use Rattle.calls.specs.declared.call.Reply.{Reply}
 use Rattle.calls.specs.declared.call.Reply.the-variants.{Answered, Reported}
 use Rattle.sheet.specs.Sheet.{nextNumber}
-use Rattle.sheet.specs.Decimal.{digits, placesIn, places, decimal, signed, Room}
+use Rattle.sheet.specs.Decimal.{digits, digitCountIn, digitCount, decimal, signed}
+use Rattle.sheet.specs.Inner.Put.{Room}
 use Rattle.sheet.specs.Line.{field, lastField, lineOf, faultLine}
 use Rattle.sheet.proofs.Digits.{decimal-length}
 
 -- ---- `26 0 0`, and two lines of case S: `0 1 -500` and `0 3 0 400`
 pub fault-line : faultLine ≡ 50 ∷ 54 ∷ 32 ∷ 48 ∷ 32 ∷ 48 ∷ 10 ∷ []
-unfolding nextNumber digits placesIn places decimal signed field lastField lineOf
+unfolding nextNumber digits digitCountIn digitCount decimal signed field lastField lineOf
 fault-line = refl
 
 pub fault-length : length faultLine ≡ 7
 fault-length = ap length fault-line
 
 withdrawn-line : lineOf (Answered (answer 0 1 (negsuc 499))) ≡ 48 ∷ 32 ∷ 49 ∷ 32 ∷ 45 ∷ 53 ∷ 48 ∷ 48 ∷ 10 ∷ []
-unfolding digits placesIn places decimal signed field lastField lineOf
+unfolding digits digitCountIn digitCount decimal signed field lastField lineOf
 withdrawn-line = refl
 
 report-line : lineOf (Reported (record { number = 0; standing = 3; flagged = 0; total = pos 400 })) ≡ 48 ∷ 32 ∷ 51 ∷ 32 ∷ 48 ∷ 32 ∷ 52 ∷ 48 ∷ 48 ∷ 10 ∷ []
-unfolding digits placesIn places decimal signed field lastField lineOf
+unfolding digits digitCountIn digitCount decimal signed field lastField lineOf
 report-line = refl
 
 -- ---- how long

@@ -14,10 +14,10 @@ use Rattle.calls.specs.Play.{exchanges, registerAfter}
 use Rattle.sheet.specs.declared.play.Progress.{Progress}
 use Rattle.sheet.specs.declared.split.Next.the-variants.{Found, End, Fault}
 use Rattle.sheet.specs.Sheet.{sheetMost, nextAt, Split, goOn, splitFrom, splitOf}
-use Rattle.sheet.specs.Decimal.{putBytes, Put}
+use Rattle.sheet.specs.Inner.Put.{Put}
 use Rattle.sheet.specs.Line.{lineOf, faultLine}
-use Rattle.sheet.specs.Play.{linesOf, textFrom, textOf, printedMost, Played}
-use Rattle.sheet.specs.Turn.{State, state, Leads, Due, Turned}
+use Rattle.sheet.specs.Play.{putBytes, linesOf, textFrom, textOf, printedMost, Played}
+use Rattle.sheet.specs.Inner.Turn.{State, state, Leads, Due, Turned}
 use Rattle.sheet.proofs.Bodies.{next-within}
 use Rattle.sheet.proofs.Pasted.{put-take, put-both}
 use Rattle.sheet.proofs.Shown.{fault-length, line-most}
@@ -120,6 +120,9 @@ module _ {sheet : List ℕ} {at : ℕ} {from : State} {p : Progress} {register o
 pub put-shown : {out text written : List ℕ} {end : ℕ} → Put out 0 text written end → end ≤ length out → take end written ≡ text
 put-shown {out} {text} put fits = rw (put .ends, put .bytes) (put-take out 0 text (omega (arith, put .ends)))
 
+pub put-end : {out text written : List ℕ} {end : ℕ} → Put out 0 text written end → end ≡ length text
+put-end put = omega (arith, put .ends)
+
 module _ (sheet register₀ out₀ : List ℕ) where
   -- the loop's invariant: what is left of a sheet makes the whole of it, and no more entries are left than bytes
   pub record Playing (register out : List ℕ) (at end : ℕ) : Type 0 where
@@ -169,7 +172,8 @@ module _ (sheet register₀ out₀ : List ℕ) where
         let text = whole .text-is out end (record { bytes = refl; ends = omega arith }) in
         record {
           register-is = whole .register-is;
-          text-is = text;
+          text-is = text .bytes;
+          end-is = put-end text;
           shown = put-shown text;
           most = omega (arith, p .within, p .few);
         }
@@ -181,7 +185,8 @@ over-long {sheet} long put =
     let e = lt-ltb sheetMost (length sheet) long in
     record {
       register-is = rw e;
-      text-is = rw e put;
+      text-is = rw e (put .bytes);
+      end-is = rw e (put-end put);
       shown = rw e (put-shown put);
       most = omega (arith, put .ends, fault-length);
     }

@@ -2,5 +2,5 @@ pub mod Sheet
 pub mod Decimal
 pub mod Line
 pub mod Play
-pub mod Turn
 pub mod Piece
+pub mod Inner

@@ -22,6 +22,10 @@ unfoldable pub lineOf : Reply → List ℕ
 lineOf (Answered a) = field (a .number) ++ (field (a .flag) ++ lastField (a .advance))
 lineOf (Reported r) = field (r .number) ++ (field (r .standing) ++ (field (r .flagged) ++ lastField (r .total)))
 
+-- a line is at most this long
+abbrev pub lineMost : ℕ
+lineMost = 85
+
 -- "Sheet fault: line `26 0 0`"
 abbrev pub faultLine : List ℕ
 faultLine = lineOf (Answered (refusal (nextNumber Fault)))

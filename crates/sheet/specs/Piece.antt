@@ -8,18 +8,18 @@ use lib.ListN.{length, take}
 use Rattle.calls.specs.Play.{registerAfter}
 use Rattle.sheet.specs.declared.play.Progress.{Progress}
 use Rattle.sheet.specs.Sheet.{sheetMost, Split, splitFrom}
-use Rattle.sheet.specs.Turn.{lineMost}
+use Rattle.sheet.specs.Line.{lineMost}
 use Rattle.sheet.specs.Play.{textFrom, textOf}
 
--- what is left of a sheet from a place on; of an over-long one it is a fault
+-- what is left of a sheet from a position on; of an over-long one it is a fault
 unfoldable pub restFrom : List ℕ → ℕ → Split
 restFrom sheet at =
     cond (ltb sheetMost (length sheet))
     (record { calls = []; faulty = ltb at (length sheet) })
     (splitFrom (suc (length sheet)) sheet at)
 
--- What playing from a place on leaves: the place that it came to, and the register and the text of this piece. The text from the old place
--- on is this piece and then the text from the new place on.
+-- What playing from a position on leaves: the position that it came to, and the register and the text of this piece. The text from the old
+-- position on is this piece and then the text from the new one on.
 pub record PlayedFrom (sheet : List ℕ) (at : ℕ) (register out : List ℕ) (p : Progress) (after written : List ℕ) : Type 0 where
   pub fits : lineMost ≤ length out → p .end ≤ length out
   pub on : lineMost ≤ length out → at < length sheet → at < p .at

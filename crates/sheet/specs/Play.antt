@@ -2,11 +2,10 @@
 use mathlib.Core.Path.{_≡_}
 use mathlib.Core.Bool.{Bool, true, false}
 use mathlib.Core.List.{List, [], _∷_, _++_}
-use Prim.Native.Nat.{ℕ, _*_, _≤_}
-use lib.ListN.{length, take}
+use Prim.Native.Nat.{ℕ, _+_, _*_, _≤_}
+use lib.ListN.{length, set, take}
 use Rattle.calls.specs.Play.{Exchange, exchanges, registerAfter}
 use Rattle.sheet.specs.Sheet.{Split, splitOf}
-use Rattle.sheet.specs.Decimal.{Put}
 use Rattle.sheet.specs.Line.{lineOf, faultLine}
 
 -- "prints one line a call"
@@ -25,13 +24,20 @@ textFrom split register = linesOf (exchanges (split .calls) register) ++ endOf (
 unfoldable pub textOf : List ℕ → List ℕ → List ℕ
 textOf sheet register = textFrom (splitOf sheet) register
 
+-- text put into bytes from a position on; what is past their end is not put
+unfoldable pub putBytes : List ℕ → ℕ → List ℕ → List ℕ
+putBytes out at [] = out
+putBytes out at (b ∷ bs) = putBytes (set out at b) (at + 1) bs
+
 -- an entry of two bytes or more prints at most 85, and one of a single byte is a fault, which prints 7
 abbrev pub printedMost : ℕ
 printedMost = 43
 
--- what a sheet that is played leaves: the register after its calls, and the text put into bytes, all of it there if they are enough
+-- what a sheet that is played leaves: the register after its calls, and the text put into bytes, all of it there if they are enough; and where
+-- the text ends
 pub record Played (sheet register out after written : List ℕ) (end : ℕ) : Type 0 where
   pub register-is : after ≡ registerAfter (splitOf sheet .calls) register
-  pub text-is : Put out 0 (textOf sheet register) written end
+  pub text-is : written ≡ putBytes out 0 (textOf sheet register)
+  pub end-is : end ≡ length (textOf sheet register)
   pub shown : end ≤ length out → take end written ≡ textOf sheet register
   pub most : end ≤ printedMost * length sheet

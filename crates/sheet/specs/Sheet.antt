@@ -7,90 +7,86 @@ use lib.ListN.{length}
 use Rattle.terms.specs.Number.{accepted, sheetFault}
 use Rattle.register.specs.Bytes.{byteAt, wordAt, longAt}
 use Rattle.calls.specs.declared.call.Call.{Call}
-use Rattle.calls.specs.declared.call.Call.the-variants.{Enrol, Submit, Withdraw, Report as ReportCall}
+use Rattle.calls.specs.declared.call.Call.the-variants as call
+use Rattle.sheet.specs.declared.form.Form.{Form}
+use Rattle.sheet.specs.declared.form.Form.the-variants.{Enrol, Submit, Withdraw, Report}
+use Rattle.sheet.specs.declared.form.Kind.{Kind}
+use Rattle.sheet.specs.declared.form.Kind.the-variants.{Known, Unknown}
 use Rattle.sheet.specs.declared.split.Next.{Next}
 use Rattle.sheet.specs.declared.split.Next.the-variants.{Found, End, Fault}
 
--- "over 60,000 bytes" is a fault
-abbrev pub sheetMost : ℕ
-sheetMost = 60000
+-- ---- kinds and bodies, a row for each form
 
--- an entry's kind and the bytes of its body
-abbrev pub kindEnrol : ℕ
-kindEnrol = 1
+-- the paper's number for each form: "1 enrol", "2 submit", "3 withdraw", "4 report"
+unfoldable pub kindByte : Form → ℕ
+kindByte Enrol = 1
+kindByte Submit = 2
+kindByte Withdraw = 3
+kindByte Report = 4
 
-abbrev pub enrolBody : ℕ
-enrolBody = 6
+-- all of them
+abbrev pub forms : List Form
+forms = Enrol ∷ Submit ∷ Withdraw ∷ Report ∷ []
 
-abbrev pub kindSubmit : ℕ
-kindSubmit = 2
+-- how long a body is, field by field
+abbrev pub bodyBytes : Form → ℕ
+bodyBytes Enrol = 1 + 1 + 4
+bodyBytes Submit = 1 + 2 + 2 + 4 + 1 + 1 + 1
+bodyBytes Withdraw = 1 + 2 + 4
+bodyBytes Report = 1
 
-abbrev pub submitBody : ℕ
-submitBody = 12
+-- the call of a body that starts at i
+--   "enrol (place 1, dials 1, capacity 4)"
+--   "submit (place 1, submission day 2, read day 2, value 4, type 1, indicator 1, re-read 1)"
+--   "withdraw (place 1, day 2, value 4)"
+--   "report (place 1)"
+unfoldable pub callAt : Form → List ℕ → ℕ → Call
+callAt Enrol sheet i = call.Enrol (byteAt sheet i) (byteAt sheet (i + 1)) (longAt sheet (i + 2))
+callAt Submit sheet i =
+    call.Submit (byteAt sheet i)
+    (record {
+      submitted = wordAt sheet (i + 1);
+      day = wordAt sheet (i + 3);
+      value = longAt sheet (i + 5);
+      letter = byteAt sheet (i + 9);
+      indicator = byteAt sheet (i + 10);
+      reread = byteAt sheet (i + 11);
+    })
+callAt Withdraw sheet i = call.Withdraw (byteAt sheet i) (wordAt sheet (i + 1)) (longAt sheet (i + 3))
+callAt Report sheet i = call.Report (byteAt sheet i)
 
-abbrev pub kindWithdraw : ℕ
-kindWithdraw = 3
+-- ---- an entry
 
-abbrev pub withdrawBody : ℕ
-withdrawBody = 7
+-- the form whose number a kind byte is, or none
+unfoldable pub kindIn : List Form → ℕ → Kind
+kindIn [] byte = Unknown
+kindIn (form ∷ rest) byte = cond (eqb byte (kindByte form)) (Known form) (kindIn rest byte)
 
-abbrev pub kindReport : ℕ
-kindReport = 4
+unfoldable pub kindOf : ℕ → Kind
+kindOf byte = kindIn forms byte
 
-abbrev pub reportBody : ℕ
-reportBody = 1
+-- an entry of a form with its kind byte at `at`: the call of a body that is there whole, and where the next entry starts. A cut body is a fault.
+unfoldable pub entryAt : Kind → List ℕ → ℕ → Next
+entryAt (Known form) sheet at =
+    let next = at + 1 + bodyBytes form in
+    cond (leb next (length sheet)) (Found (callAt form sheet (at + 1)) next) Fault
+entryAt Unknown sheet at = Fault
 
--- the bodies, from the byte after the kind on
-module _ (sheet : List ℕ) (i : ℕ) where
-  -- "1 enrol (place 1, dials 1, capacity 4)"
-  unfoldable pub enrolAt : Call
-  enrolAt = Enrol (byteAt sheet i) (byteAt sheet (i + 1)) (longAt sheet (i + 2))
-
-  -- "2 submit (place 1, submission day 2, read day 2, value 4, type 1, indicator 1, re-read 1)"
-  unfoldable pub submitAt : Call
-  submitAt =
-      Submit (byteAt sheet i)
-      (record {
-        submitted = wordAt sheet (i + 1);
-        day = wordAt sheet (i + 3);
-        value = longAt sheet (i + 5);
-        letter = byteAt sheet (i + 9);
-        indicator = byteAt sheet (i + 10);
-        reread = byteAt sheet (i + 11);
-      })
-
-  -- "3 withdraw (place 1, day 2, value 4)"
-  unfoldable pub withdrawAt : Call
-  withdrawAt = Withdraw (byteAt sheet i) (wordAt sheet (i + 1)) (longAt sheet (i + 3))
-
-  -- "4 report (place 1)"
-  unfoldable pub reportAt : Call
-  reportAt = ReportCall (byteAt sheet i)
-
--- the call of a body that is there whole, and where the next entry starts; a cut body is a fault
-unfoldable pub bodyAt : List ℕ → ℕ → ℕ → Call → Next
-bodyAt sheet at body call = cond (leb (at + 1 + body) (length sheet)) (Found call (at + 1 + body)) Fault
-
--- what stands at a place of a sheet: its end, a call, or a fault
+-- what stands at a position of a sheet: its end, a call, or a fault
 unfoldable pub nextAt : List ℕ → ℕ → Next
-nextAt sheet at =
-    cond (leb (length sheet) at)
-    End
-    (cond (eqb (byteAt sheet at) kindEnrol)
-    (bodyAt sheet at enrolBody (enrolAt sheet (at + 1)))
-    (cond (eqb (byteAt sheet at) kindSubmit)
-    (bodyAt sheet at submitBody (submitAt sheet (at + 1)))
-    (cond (eqb (byteAt sheet at) kindWithdraw)
-    (bodyAt sheet at withdrawBody (withdrawAt sheet (at + 1)))
-    (cond (eqb (byteAt sheet at) kindReport)
-    (bodyAt sheet at reportBody (reportAt sheet (at + 1)))
-    Fault))))
+nextAt sheet at = cond (leb (length sheet) at) End (entryAt (kindOf (byteAt sheet at)) sheet at)
 
 -- the paper's number for what stands there: 26 for "unknown kind, cut body", and for the rest none of its own
 unfoldable pub nextNumber : Next → ℕ
 nextNumber (Found call next) = accepted
 nextNumber End = accepted
 nextNumber Fault = sheetFault
+
+-- ---- a sheet
+
+-- "over 60,000 bytes" is a fault
+abbrev pub sheetMost : ℕ
+sheetMost = 60000
 
 -- the calls of a sheet in order, and whether a fault ends them
 pub record Split : Type 0 where

@@ -1,7 +1,8 @@
 // Numbers as decimal text, put into bytes that are lent. What is past their end is not written.
 ghost use mathlib.Core.Path.{_≡_};
 ghost use lib.IntN.{natAbs};
-ghost use Rattle.sheet.specs.Decimal.{decimal, signed, Put, Room};
+ghost use Rattle.sheet.specs.Decimal.{decimal, signed};
+ghost use Rattle.sheet.specs.Inner.Put.{Put, Room};
 use register::write::put_byte;
 
 // The digits before the last, and then the last. Answers where the text ends.

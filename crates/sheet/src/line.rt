@@ -1,5 +1,5 @@
 // The line that the program prints for a reply.
-ghost use Rattle.sheet.specs.Decimal.{Put, Room};
+ghost use Rattle.sheet.specs.Inner.Put.{Put, Room};
 ghost use Rattle.sheet.specs.Line.{field, lastField, lineOf};
 use crate::decimal::put_decimal;
 use crate::decimal::put_signed;

@@ -10,7 +10,7 @@ pub fn pieces_make_the_text()
     ensures { λ _. ⌜ PiecesMakeTheText ⌝ }
 {}
 
-// Plays from a place on for as long as a line surely fits. Answers the place that it came to, and where the text of this piece ends.
+// Plays from a position on for as long as a line surely fits. Answers the position that it came to, and where the text of this piece ends.
 pub fn play_from(sheet: &[u8], register: &mut [u8], out: &mut [u8], start: usize) -> Progress
     ensures { λ r. ⌜ PlayedFrom (now (sheet .entry)) start (now (register .entry)) (now (out .entry)) r (now (register .exit)) (now (out .exit)) ⌝ }
 {

@@ -1,8 +1,8 @@
 // A sheet played: each call carried out on the register, and its line put into bytes that are lent.
-ghost use Rattle.sheet.specs.Decimal.{Put, Room};
+ghost use Rattle.sheet.specs.Inner.Put.{Put, Room};
 ghost use Rattle.sheet.specs.Line.{faultLine};
 ghost use Rattle.sheet.specs.Play.{Played};
-ghost use Rattle.sheet.specs.Turn.{state, Due, Turned};
+ghost use Rattle.sheet.specs.Inner.Turn.{state, Due, Turned};
 use crate::apply::apply;
 use crate::line::put_reply;
 use crate::split::Next;
@@ -38,7 +38,7 @@ pub(crate) fn put_fault(out: &mut [u8], at: usize) -> usize
     put_reply(out, at, Reply::Answered(refuse(Number::SHEET)))
 }
 
-// One entry. After a fault the place is the sheet's end, so that nothing more is played.
+// One entry. After a fault the position is the sheet's end, so that nothing more is played.
 pub(crate) fn play_next(
     sheet: &[u8],
     register: &mut [u8],

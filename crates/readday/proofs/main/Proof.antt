@@ -6,7 +6,7 @@ use lib.ListN.{length}
 use lib.Seq.{length-take-le}
 use Rattle.register.specs.Area.{registerBytes}
 use Rattle.calls.proofs.Chains.{zero-whole}
-use Rattle.sheet.specs.Turn.{lineMost}
+use Rattle.sheet.specs.Line.{lineMost}
 use borrow.Author.Needs.{needs}
 use Rattle.readday.proofs.main.Statement.{statement}
 use Rattle.readday.proofs.main.Tie as tie
@@ -17,7 +17,7 @@ Inv-loop sheet register₀ text₀ size at₀ register text at = (length registe
 abbrev μ-loop : tie.MeasureT-loop
 μ-loop sheet register₀ text₀ size at₀ register text at = size - at
 
--- a piece: there is room for a line, so its text is within the bytes for it and the place moves on
+-- a piece: there is room for a line, so its text is within the bytes for it and the position moves on
 module _ (c : tie.After-play-from Inv-loop μ-loop) where
   abbrev turn : tie.In-loop Inv-loop μ-loop
   turn = c .before .before .before .before

@@ -6,7 +6,8 @@ use native.Mathlib.Omega.{arith}
 use lib.IntN.{natAbs}
 use mir.Syntax.{w64}
 use mir.ValLaws.{toZ-ofZ}
-use Rattle.sheet.specs.Decimal.{decimal, signed, Put, Room}
+use Rattle.sheet.specs.Decimal.{decimal, signed}
+use Rattle.sheet.specs.Inner.Put.{Put, Room}
 use Rattle.sheet.proofs.Negated.{signed-negative, signed-natural}
 use Rattle.sheet.proofs.Pasted.{put-one, put-both, room-rest}
 use borrow.Author.Needs.{needs}

@@ -3,7 +3,8 @@ use native.Mathlib.Omega.{arith}
 use mir.Syntax.{w64}
 use mir.ValLaws.{toZ-ofZ}
 use Rattle.sheet.specs.Line.{lastField}
-use Rattle.sheet.specs.Decimal.{signed, Put}
+use Rattle.sheet.specs.Decimal.{signed}
+use Rattle.sheet.specs.Inner.Put.{Put}
 use Rattle.sheet.proofs.Pasted.{put-more, room-first, room-more}
 use borrow.Author.Needs.{needs}
 use Rattle.sheet.proofs.line.put_last.Statement.{statement}

@@ -7,7 +7,7 @@ use borrow.Author.Tests.{ltb-true, leb-true}
 use lib.Dec.{leb, ltb}
 use lib.ListN.{length}
 use Rattle.calls.proofs.Bools.{both}
-use Rattle.sheet.specs.Turn.{lineMost}
+use Rattle.sheet.specs.Line.{lineMost}
 use Rattle.sheet.proofs.Shown.{line-room}
 use Rattle.sheet.proofs.Pieces.{Going, set-out, gone-on, stopped, none-left, too-long}
 use borrow.Author.Needs.{needs}

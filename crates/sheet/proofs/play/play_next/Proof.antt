@@ -1,4 +1,4 @@
--- What stands at the place is a call, which is carried out and its line put; the end; or a fault, whose line is put.
+-- What stands at the position is a call, which is carried out and its line put; the end; or a fault, whose line is put.
 use mathlib.Core.Path.{sym, _∙_}
 use native.Mathlib.Omega.{arith}
 use Rattle.sheet.proofs.Shown.{line-room}

@@ -1,83 +1,77 @@
--- The tests come in the definition's order, and each kind's function gives what stands there.
-use mathlib.Core.Path.{_≡_, refl}
-use mathlib.Core.Bool.{Bool, cond}
-use mathlib.Core.List.{List}
-use Prim.Native.Nat.{ℕ, _+_}
-use borrow.Author.Tests.{le-leb, lt-leb, eq-eqb, ne-eqb}
-use lib.Dec.{eqb, leb}
-use lib.ListN.{length}
-use Rattle.register.specs.Bytes.{byteAt}
-use Rattle.sheet.specs.declared.split.Next.{Next}
-use Rattle.sheet.specs.declared.split.Next.the-variants.{End, Fault}
-use Rattle.sheet.specs.Sheet.{kindEnrol, enrolBody, kindSubmit, submitBody, kindWithdraw, withdrawBody, kindReport, reportBody, enrolAt, submitAt, withdrawAt, reportAt, bodyAt, nextAt}
+-- The tests come in the definition's order: the end, an unknown kind, a cut body.
+use mathlib.Core.Path.{sym, _∙_}
+use native.Mathlib.Omega.{arith}
+use Rattle.sheet.proofs.Bodies.{past, unknown, whole, cut}
 use borrow.Author.Needs.{needs}
 use Rattle.sheet.proofs.split.next_at.Statement.{statement}
 use Rattle.sheet.proofs.split.next_at.Tie as tie
 
--- what stands there, by the five tests
-module _ (sheet : List ℕ) (at : ℕ) where
-  abbrev kind : ℕ
-  kind = byteAt sheet at
-
-  next-is : {ends enrols submits withdraws reports : Bool} → leb (length sheet) at ≡ ends → eqb kind kindEnrol ≡ enrols → eqb kind kindSubmit ≡ submits → eqb kind kindWithdraw ≡ withdraws → eqb kind kindReport ≡ reports → {r : Next} → r ≡ cond ends End (cond enrols (bodyAt sheet at enrolBody (enrolAt sheet (at + 1))) (cond submits (bodyAt sheet at submitBody (submitAt sheet (at + 1))) (cond withdraws (bodyAt sheet at withdrawBody (withdrawAt sheet (at + 1))) (cond reports (bodyAt sheet at reportBody (reportAt sheet (at + 1))) Fault)))) → r ≡ nextAt sheet at
-  unfolding nextAt
-  next-is ends enrols submits withdraws reports r = rw (ends, enrols, submits, withdraws, reports) r
-
 returns : tie.Need-returns
-returns c = next-is _ _ (le-leb _ _ (c .if1 .taken)) refl refl refl refl refl
+returns c = past _ _ (c .if1 .taken)
 
-shared-slice-read-kind : tie.Need-shared-slice-read-kind
-shared-slice-read-kind c = search needs
+shared-slice-read-kind-of : tie.Need-shared-slice-read-kind-of
+shared-slice-read-kind-of c = search needs
 
-enrol-at-requires : tie.Need-enrol-at-requires
-enrol-at-requires c κs = search needs
+kind-of-requires : tie.Need-kind-of-requires
+kind-of-requires c κs = search needs
+
+enum-known-form : tie.Need-enum-known-form
+enum-known-form c = search needs
+
+add-next : tie.Need-add-next
+add-next c = search needs
+
+body-bytes-requires : tie.Need-body-bytes-requires
+body-bytes-requires c κs = search needs
+
+cast-next : tie.Need-cast-next
+cast-next c = search needs
+
+add-next-2 : tie.Need-add-next-2
+add-next-2 c = search needs
 
 returns-2 : tie.Need-returns-2
 returns-2 c =
-    let d = c .before .before .before in
-    next-is _ _ (lt-leb _ _ (d .if1 .left)) (eq-eqb _ _ (c .before .if2 .taken)) refl refl refl (c .enrol-at .ensures)
+    let read = c .before .before .before .before .before in
+    let known = sym (c .before .before .before .form .given .1) ∙ read .kind-of .ensures in
+    cut _ _ (read .before .before .if1 .left) known (omega (arith, c .if2 .taken, c .before .body-bytes .ensures))
 
-submit-at-requires : tie.Need-submit-at-requires
-submit-at-requires c κs = search needs
+add-call-at : tie.Need-add-call-at
+add-call-at c = search needs
+
+call-at-requires : tie.Need-call-at-requires
+call-at-requires c κs = omega (arith, c .if2 .left, c .before .body-bytes .ensures)
 
 returns-3 : tie.Need-returns-3
 returns-3 c =
-    let d = c .before .before .before .before in
-    next-is _ _ (lt-leb _ _ (d .if1 .left)) (ne-eqb _ _ (c .before .before .if2 .left)) (eq-eqb _ _ (c .before .if3 .taken)) refl refl (c .submit-at .ensures)
+    let body = c .before .before in
+    let read = body .before .before .before .before in
+    let known = sym (body .before .before .form .given .1) ∙ read .kind-of .ensures in
+    rw (c .call-at .ensures, body .body-bytes .ensures) (whole _ _ (read .before .before .if1 .left) known (omega (arith, c .before .if2 .left, body .body-bytes .ensures)))
 
-withdraw-at-requires : tie.Need-withdraw-at-requires
-withdraw-at-requires c κs = search needs
+enum-told : tie.Need-enum-told
+enum-told c = search needs
 
 returns-4 : tie.Need-returns-4
 returns-4 c =
-    let d = c .before .before .before .before .before in
-    next-is _ _ (lt-leb _ _ (d .if1 .left)) (ne-eqb _ _ (c .before .before .before .if2 .left)) (ne-eqb _ _ (c .before .before .if3 .left)) (eq-eqb _ _ (c .before .if4 .taken)) refl (c .withdraw-at .ensures)
-
-report-at-requires : tie.Need-report-at-requires
-report-at-requires c κs = search needs
-
-returns-5 : tie.Need-returns-5
-returns-5 c =
-    let d = c .before .before .before .before .before .before in
-    next-is _ _ (lt-leb _ _ (d .if1 .left)) (ne-eqb _ _ (c .before .before .before .before .if2 .left)) (ne-eqb _ _ (c .before .before .before .if3 .left)) (ne-eqb _ _ (c .before .before .if4 .left)) (eq-eqb _ _ (c .before .if5 .taken)) (c .report-at .ensures)
-
-returns-6 : tie.Need-returns-6
-returns-6 c =
-    let d = c .before .before .before .before .before in
-    next-is _ _ (lt-leb _ _ (d .if1 .left)) (ne-eqb _ _ (c .before .before .before .if2 .left)) (ne-eqb _ _ (c .before .before .if3 .left)) (ne-eqb _ _ (c .before .if4 .left)) (ne-eqb _ _ (c .if5 .left)) refl
+    let read = c .before .before in
+    unknown _ _ (read .before .before .if1 .left) (sym (c .enum-told .given .1) ∙ read .kind-of .ensures)
 
 pub next-at-spec : {M : Type 1} → statement M
 next-at-spec =
     tie.close
     (tie.spec
     returns
-    shared-slice-read-kind
-    enrol-at-requires
+    shared-slice-read-kind-of
+    kind-of-requires
+    enum-known-form
+    add-next
+    body-bytes-requires
+    cast-next
+    add-next-2
     returns-2
-    submit-at-requires
+    add-call-at
+    call-at-requires
+    enum-told
     returns-3
-    withdraw-at-requires
-    returns-4
-    report-at-requires
-    returns-5
-    returns-6)
+    returns-4)

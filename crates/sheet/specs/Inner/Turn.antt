@@ -6,8 +6,9 @@ use lib.ListN.{length}
 use Rattle.calls.specs.Play.{registerAfter}
 use Rattle.sheet.specs.declared.play.Progress.{Progress}
 use Rattle.sheet.specs.Sheet.{Split, sheetMost, splitFrom}
-use Rattle.sheet.specs.Decimal.{Put}
+use Rattle.sheet.specs.Line.{lineMost}
 use Rattle.sheet.specs.Play.{textFrom, printedMost}
+use Rattle.sheet.specs.Inner.Put.{Put}
 
 -- where play stands: the register, the bytes for the text, and where the text ends
 pub record State : Type 0 where
@@ -29,11 +30,7 @@ pub record Due (sheet : List ℕ) (at end : ℕ) : Type 0 where
   pub more : at < length sheet
   pub few : end ≤ printedMost * at
 
--- a line is at most this long
-abbrev pub lineMost : ℕ
-lineMost = 85
-
--- after a turn: the place has moved on, a line was put, and the text is this line and then that of the rest from there, whatever is left of it
+-- after a turn: the position has moved on, a line was put, and the text is this line and then that of the rest from there, whatever is left of it
 pub record Turned (sheet : List ℕ) (at : ℕ) (from : State) (p : Progress) (register out : List ℕ) : Type 0 where
   pub on : at < p .at
   pub within : p .at ≤ length sheet

@@ -1,0 +1,17 @@
+-- A byte fits in two.
+use native.Mathlib.Omega.{arith}
+use borrow.Author.Needs.{needs}
+use Rattle.sheet.proofs.body.place_at.Statement.{statement}
+use Rattle.sheet.proofs.body.place_at.Tie as tie
+
+shared-slice-read-result : tie.Need-shared-slice-read-result
+shared-slice-read-result c = search needs
+
+cast-result : tie.Need-cast-result
+cast-result c = omega (arith, c .shared-slice-known .given (c .before .args .i))
+
+returns : tie.Need-returns
+returns c = search needs
+
+pub place-at-spec : {M : Type 1} → statement M
+place-at-spec = tie.close (tie.spec shared-slice-read-result cast-result returns)

@@ -1,0 +1,40 @@
+// The form of an entry: what its kind byte says of the body after it.
+ghost use mathlib.Core.Path.{_≡_};
+ghost use Rattle.sheet.specs.Sheet.{kindOf, bodyBytes};
+
+// One for each kind of call that a sheet may hold.
+pub enum Form {
+    Enrol,
+    Submit,
+    Withdraw,
+    Report,
+}
+
+pub enum Kind {
+    Known(Form),
+    Unknown,
+}
+
+pub fn kind_of(byte: u8) -> Kind
+    ensures { λ r. ⌜ r ≡ kindOf byte ⌝ }
+{
+    match byte {
+        1 => Kind::Known(Form::Enrol),
+        2 => Kind::Known(Form::Submit),
+        3 => Kind::Known(Form::Withdraw),
+        4 => Kind::Known(Form::Report),
+        _ => Kind::Unknown,
+    }
+}
+
+// A byte holds it, so what is added to a position in a sheet is small.
+pub fn body_bytes(form: Form) -> u8
+    ensures { λ r. ⌜ r ≡ bodyBytes form ⌝ }
+{
+    match form {
+        Form::Enrol => 6,
+        Form::Submit => 12,
+        Form::Withdraw => 7,
+        Form::Report => 1,
+    }
+}
