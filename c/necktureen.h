@@ -1,10 +1,20 @@
-/* The meter-read validator, for C. Link with libboundary.a, which `rt staticlib boundary` writes to target/staticlib.
+/* Necktureen, a validator of water meter reads, for C99 and C++. Link with libnecktureen.a, which
+ * `rt staticlib necktureen` writes to target/staticlib: code for x86-64 that needs no other library.
  *
  * A register is NECKTUREEN_REGISTER_BYTES bytes that the caller lends, all zero at first; place p's meter has the
  * NECKTUREEN_AREA_BYTES bytes from NECKTUREEN_AREA_BYTES * p on. Every function takes the register as a pointer and its
- * length, whatever that is and whatever the bytes are, and all but the last answer one of the numbers below. A number
- * other than 0 changes no byte of the register and puts zeros in the other fields; 19 and 20 store the held read. The
- * pointers to the other fields are to be valid, apart from each other and outside the register. None is kept. */
+ * length, whatever that is and whatever the bytes are, and all but the last two answer one of the numbers below. A
+ * number other than 0 changes no byte of the register and puts zeros in the other fields; 19 and 20 store the held read.
+ *
+ * Pointers: a pointer and its length belong together. What is written (register, text, the other fields) is valid, apart
+ * from each other and from all else that is lent. No pointer is kept, nothing is allocated, and nothing is remembered
+ * between calls: calls on different registers may run at the same time, calls on one register one at a time.
+ *
+ * Widths: compile with -Wconversion. C cuts an argument that is too wide, silently: place 65537 in an int becomes
+ * place 1, and day 66536 becomes day 1000. A place or day that was not cut, however wrong, gets its number.
+ *
+ * What stays: a register's bytes are the file format, and a register that one version wrote is read by the next.
+ * Numbers keep their words, letters their types and functions their arguments; later versions add more. */
 #ifndef NECKTUREEN_H
 #define NECKTUREEN_H
 
@@ -15,9 +25,22 @@
 extern "C" {
 #endif
 
+#define NECKTUREEN_VERSION "0.2.0"
+#define NECKTUREEN_VERSION_MAJOR 0
+#define NECKTUREEN_VERSION_MINOR 2
+#define NECKTUREEN_VERSION_PATCH 0
+
 #define NECKTUREEN_REGISTER_BYTES 32768
 #define NECKTUREEN_AREA_BYTES 512
 
+/* The most bytes of a day sheet, and the most text that playing it gives for each of its bytes. */
+#define NECKTUREEN_SHEET_BYTES 60000
+#define NECKTUREEN_TEXT_BYTES 43
+
+/* The value that marks a missing one. */
+#define NECKTUREEN_MISSING_VALUE UINT32_C(4294967295)
+
+/* What a call answers. */
 enum necktureen_number {
     NECKTUREEN_ACCEPTED = 0,
     NECKTUREEN_REPEAT = 1,
@@ -48,26 +71,89 @@ enum necktureen_number {
     NECKTUREEN_SHEET = 26
 };
 
+/* The word of a number; "unknown" for one that is not in the table. */
+static inline const char *necktureen_word(unsigned number) {
+    static const char *const words[] = {
+        "accepted",
+        "repeat",
+        "misfit",
+        "no meter",
+        "damaged",
+        "missing",
+        "content",
+        "date",
+        "withdrawn",
+        "AT",
+        "EH",
+        "BF",
+        "back-dated",
+        "DF",
+        "indicator on opening",
+        "no original",
+        "full",
+        "EE",
+        "EF",
+        "low",
+        "high",
+        "capacity",
+        "not standing",
+        "not last",
+        "enrolled",
+        "plate",
+        "sheet"
+    };
+    return number < sizeof words / sizeof words[0] ? words[number] : "unknown";
+}
+
+/* The type letters of reads. */
+enum necktureen_letter {
+    NECKTUREEN_INITIAL = 'I',
+    NECKTUREEN_OPENING = 'O',
+    NECKTUREEN_FINAL = 'F',
+    NECKTUREEN_CYCLIC = 'C',
+    NECKTUREEN_CUSTOMER = 'U',
+    NECKTUREEN_AMR = 'R',
+    NECKTUREEN_TRANSFER = 'T',
+    NECKTUREEN_ESTIMATED_TRANSFER = 'S',
+    NECKTUREEN_DISCONNECTION = 'X',
+    NECKTUREEN_RECONNECTION = 'Y',
+    NECKTUREEN_END = 'E'
+};
+
+/* The rollover indicator: what the sender says of the dials having passed all nines. */
+enum necktureen_indicator {
+    NECKTUREEN_NOT_SET = 0,
+    NECKTUREEN_FALSE = 1,
+    NECKTUREEN_TRUE = 2
+};
+
 /* Enrols a meter of 4 to 9 dials and a capacity in cubic metres a year. 0, 2, 3, 24 or 25. */
-uint8_t necktureen_enrol(uint8_t *reg, size_t length, uint8_t place, uint8_t dials, uint32_t capacity,
+uint8_t necktureen_enrol(uint8_t *reg, size_t length, uint16_t place, uint8_t dials, uint32_t capacity,
                          uint8_t *flag, int64_t *advance);
 
-/* Submits a read: the day of submission, the read's day (1 is 1 January 2000), value, type letter, indicator (0 not
- * set, 1 false, 2 true) and re-read (0 or 1). Accepted, it answers the read's flag and its advance. */
-uint8_t necktureen_submit(uint8_t *reg, size_t length, uint8_t place, uint16_t submitted, uint16_t day, uint32_t value,
+/* Submits a read: the day of submission, the read's day (1 is 1 January 2000), value, type letter, indicator and
+ * re-read (0 or 1). Accepted, it answers the read's flag (1 if it was taken as a rollover) and its advance. */
+uint8_t necktureen_submit(uint8_t *reg, size_t length, uint16_t place, uint16_t submitted, uint16_t day, uint32_t value,
                           uint8_t letter, uint8_t indicator, uint8_t reread, uint8_t *flag, int64_t *advance);
 
 /* Withdraws the last standing read, named by its day and value. Accepted, it answers the read's flag and its advance
  * negated. */
-uint8_t necktureen_withdraw(uint8_t *reg, size_t length, uint8_t place, uint16_t day, uint32_t value, uint8_t *flag,
+uint8_t necktureen_withdraw(uint8_t *reg, size_t length, uint16_t place, uint16_t day, uint32_t value, uint8_t *flag,
                             int64_t *advance);
 
 /* Reports how many reads stand, how many of them are flagged, and the total from the first to the last. */
-uint8_t necktureen_report(const uint8_t *reg, size_t length, uint8_t place, uint8_t *standing, uint8_t *flagged,
+uint8_t necktureen_report(const uint8_t *reg, size_t length, uint16_t place, uint16_t *standing, uint16_t *flagged,
                           int64_t *total);
 
 /* How many bytes the meter's journal takes, from reg + NECKTUREEN_AREA_BYTES * place on; 0 where a report is refused. */
-size_t necktureen_journal(const uint8_t *reg, size_t length, uint8_t place);
+size_t necktureen_journal(const uint8_t *reg, size_t length, uint16_t place);
+
+/* Plays a day sheet on the register and writes a line of text for each call: number, flag, advance; for a report
+ * number, standing, flagged, total. A fault of the sheet gives the line "26 0 0" and ends it. It answers the length of
+ * the whole text, and writes what `room` bytes hold of it; the calls are made all the same. There is no byte 0 after
+ * the text. */
+size_t necktureen_play(const uint8_t *sheet, size_t sheet_length, uint8_t *reg, size_t length, uint8_t *text,
+                       size_t room);
 
 #ifdef __cplusplus
 }

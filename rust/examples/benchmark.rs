@@ -6,14 +6,14 @@
 #[path = "../tests/peer/mod.rs"]
 mod peer;
 
-use necktureen::{Answer, Number, Report, Submission, AREA_BYTES, REGISTER_BYTES};
+use necktureen::{Answer, Call, Number, Report, SheetWriter, Submission, AREA_BYTES, REGISTER_BYTES, SHEET_BYTES};
 use std::hint::black_box;
 use std::io::Write;
 use std::path::{Path, PathBuf};
 use std::process::{Command, Stdio};
 use std::time::{Duration, Instant};
 
-const PLACES: u8 = 64;
+const PLACES: u16 = 64;
 const ROUNDS: usize = 41;
 /// How often a round goes through the 64 places.
 const PASSES: u32 = 50;
@@ -30,16 +30,16 @@ const ADVANCE: u32 = 100;
 /// Both sides are called through pointers, so that neither is inlined into the loop that times it.
 #[derive(Clone, Copy)]
 struct Side {
-    submit: fn(&mut [u8], u8, Submission) -> Answer,
-    withdraw: fn(&mut [u8], u8, u16, u32) -> Answer,
-    report: fn(&[u8], u8) -> Report,
+    submit: fn(&mut [u8], u16, Submission) -> Answer,
+    withdraw: fn(&mut [u8], u16, u16, u32) -> Answer,
+    report: fn(&[u8], u16) -> Report,
 }
 
 const LIBRARY: Side = Side { submit: necktureen::submit, withdraw: necktureen::withdraw, report: necktureen::report };
 const PEER: Side = Side { submit: peer::submit, withdraw: peer::withdraw, report: peer::report };
 
 #[derive(Clone, Copy)]
-enum Call {
+enum Timed {
     Submit(Submission),
     Withdraw { day: u16, value: u32 },
     Report,
@@ -49,10 +49,10 @@ struct Row {
     name: &'static str,
     case: &'static str,
     entries: usize,
-    call: Call,
+    call: Timed,
     expected: Number,
     /// Where the calls go, one after the other.
-    places: Vec<u8>,
+    places: Vec<u16>,
     register: Vec<u8>,
 }
 
@@ -103,7 +103,7 @@ fn next_read(standing: usize, advance: u32) -> Submission {
 
 // ---- The rows ----
 
-fn every_place() -> Vec<u8> {
+fn every_place() -> Vec<u16> {
     (0..PLACES).collect()
 }
 
@@ -112,7 +112,7 @@ fn submit_row(case: &'static str, entries: usize, advance: u32, expected: Number
         name: "submit",
         case,
         entries,
-        call: Call::Submit(next_read(entries, advance)),
+        call: Timed::Submit(next_read(entries, advance)),
         expected,
         places: every_place(),
         register: register(entries),
@@ -121,7 +121,7 @@ fn submit_row(case: &'static str, entries: usize, advance: u32, expected: Number
 
 fn half_withdrawn_row(entries: usize) -> Row {
     let mut row = submit_row("accepted, every second entry withdrawn", entries, ADVANCE, Number::Accepted);
-    row.call = Call::Submit(next_read(entries.div_ceil(2), ADVANCE));
+    row.call = Timed::Submit(next_read(entries.div_ceil(2), ADVANCE));
     row.register = area(entries, true).repeat(usize::from(PLACES));
     row
 }
@@ -139,15 +139,15 @@ fn place_row() -> Row {
 }
 
 fn withdraw_row(entries: usize) -> Row {
-    let call = Call::Withdraw { day: day(entries - 1), value: value(entries - 1) };
+    let call = Timed::Withdraw { day: day(entries - 1), value: value(entries - 1) };
     Row { name: "withdraw", call, ..submit_row("accepted", entries, ADVANCE, Number::Accepted) }
 }
 
 fn report_row(entries: usize) -> Row {
-    Row { name: "report", call: Call::Report, ..submit_row("accepted", entries, ADVANCE, Number::Accepted) }
+    Row { name: "report", call: Timed::Report, ..submit_row("accepted", entries, ADVANCE, Number::Accepted) }
 }
 
-fn report_at_row(case: &'static str, place: u8) -> Row {
+fn report_at_row(case: &'static str, place: u16) -> Row {
     Row { case, places: vec![place; usize::from(PLACES)], ..report_row(25) }
 }
 
@@ -171,7 +171,7 @@ impl Row {
     /// A call that stores or marks a read finds another register the second time.
     fn changes(&self) -> bool {
         let stored = [Number::Accepted, Number::Low, Number::High].contains(&self.expected);
-        !matches!(self.call, Call::Report) && stored
+        !matches!(self.call, Timed::Report) && stored
     }
 
     /// Holds both sides to the answer that the row names.
@@ -180,9 +180,9 @@ impl Row {
             let mut register = self.register.clone();
             for &place in &self.places {
                 let number = match self.call {
-                    Call::Submit(read) => (side.submit)(&mut register, place, read).number,
-                    Call::Withdraw { day, value } => (side.withdraw)(&mut register, place, day, value).number,
-                    Call::Report => (side.report)(&register, place).number,
+                    Timed::Submit(read) => (side.submit)(&mut register, place, read).number,
+                    Timed::Withdraw { day, value } => (side.withdraw)(&mut register, place, day, value).number,
+                    Timed::Report => (side.report)(&register, place).number,
                 };
                 assert_eq!(number, self.expected, "{} {} {}", self.name, self.case, self.entries);
             }
@@ -192,19 +192,19 @@ impl Row {
     /// Nanoseconds a call of one round.
     fn round(&self, side: Side) -> f64 {
         match self.call {
-            Call::Submit(read) => self.time(|register, place| {
-                black_box((side.submit)(register, place, black_box(read)));
+            Timed::Submit(read) => self.time(|register, place| {
+                let _ = black_box((side.submit)(register, place, black_box(read)));
             }),
-            Call::Withdraw { day, value } => self.time(|register, place| {
-                black_box((side.withdraw)(register, place, black_box(day), black_box(value)));
+            Timed::Withdraw { day, value } => self.time(|register, place| {
+                let _ = black_box((side.withdraw)(register, place, black_box(day), black_box(value)));
             }),
-            Call::Report => self.time(|register, place| {
-                black_box((side.report)(register, place));
+            Timed::Report => self.time(|register, place| {
+                let _ = black_box((side.report)(register, place));
             }),
         }
     }
 
-    fn time(&self, call: impl Fn(&mut [u8], u8)) -> f64 {
+    fn time(&self, call: impl Fn(&mut [u8], u16)) -> f64 {
         let mut register = self.register.clone();
         let mut spent = Duration::ZERO;
         let (stretches, passes) = if self.changes() { (PASSES, 1) } else { (1, PASSES) };
@@ -248,39 +248,25 @@ fn program() -> PathBuf {
 
 /// A sheet of 60,000 bytes: 64 meters, a read of each in turn, every tenth read withdrawn, then reports.
 fn long_sheet() -> Vec<u8> {
-    let mut sheet = Vec::new();
+    let mut room = vec![0; SHEET_BYTES];
+    let mut sheet = SheetWriter::new(&mut room);
+    let mut write = |call: Call| sheet.write(&call).is_ok();
     for place in 0..PLACES {
-        sheet.extend([1, place, DIALS]);
-        sheet.extend(CAPACITY.to_le_bytes());
+        write(Call::Enrol { place, dials: DIALS, capacity: CAPACITY });
     }
-    let mut position = 0;
-    while sheet.len() < 58_000 {
+    for position in 0..66 {
         for place in 0..PLACES {
-            sheet.extend(submit_bytes(place, next_read(position, ADVANCE)));
+            write(Call::Submit { place, read: next_read(position, ADVANCE) });
         }
         if position % 10 == 9 {
             for place in 0..PLACES {
-                sheet.extend([3, place]);
-                sheet.extend(day(position).to_le_bytes());
-                sheet.extend(value(position).to_le_bytes());
+                write(Call::Withdraw { place, day: day(position), value: value(position) });
             }
         }
-        position += 1;
     }
-    while sheet.len() < 60_000 {
-        sheet.extend([4, sheet.len() as u8 % PLACES]);
-    }
-    assert_eq!(sheet.len(), 60_000);
-    sheet
-}
-
-fn submit_bytes(place: u8, read: Submission) -> Vec<u8> {
-    let mut bytes = vec![2, place];
-    bytes.extend(read.submitted.to_le_bytes());
-    bytes.extend(read.day.to_le_bytes());
-    bytes.extend(read.value.to_le_bytes());
-    bytes.extend([read.letter, read.indicator, read.reread]);
-    bytes
+    while write(Call::Report { place: 0 }) {}
+    assert_eq!(sheet.sheet().len(), SHEET_BYTES);
+    sheet.sheet().to_vec()
 }
 
 fn run_program(sheet: &[u8]) -> Vec<u8> {
@@ -308,12 +294,12 @@ fn print_program() {
         return;
     }
     let sheet = long_sheet();
-    let lines = peer::play(&sheet);
+    let lines = peer::run(&sheet);
     assert!(run_program(&sheet) == lines, "program and peer print different lines");
     let count = lines.iter().filter(|&&byte| byte == b'\n').count();
     let program = milliseconds(|| drop(black_box(run_program(&sheet))));
     let start = milliseconds(|| drop(black_box(run_program(&[]))));
-    let peer = milliseconds(|| drop(black_box(peer::play(black_box(&sheet)))));
+    let peer = milliseconds(|| drop(black_box(peer::run(black_box(&sheet)))));
     println!("\nA sheet of 60,000 bytes, {count} calls, medians of {ROUNDS} runs in milliseconds:\n");
     println!("| what | ms |\n|---|---:|");
     println!("| the program, as a process of its own | {program:.2} |");

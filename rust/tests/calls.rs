@@ -1,17 +1,9 @@
-//! The compiled calls: each refusal once, every edge length and place, and that a refusal changes no byte.
+//! The compiled calls: refusals, every edge length and place, and that a refusal changes no byte.
 
 mod common;
 
 use common::*;
 use necktureen::{enrol, journal, report, withdraw, Answer, Number, Report, AREA_BYTES, REGISTER_BYTES};
-
-fn refused(number: Number) -> Answer {
-    Answer { number, flag: 0, advance: 0 }
-}
-
-fn no_report(number: Number) -> Report {
-    Report { number, standing: 0, flagged: 0, total: 0 }
-}
 
 /// Three standing reads, the last one turned over, and a withdrawn one between them.
 fn journal_of_three() -> Vec<u8> {
@@ -25,26 +17,29 @@ fn journal_of_three() -> Vec<u8> {
 
 #[test]
 fn a_misfit_register_is_refused_by_every_call() {
-    for length in [0, 511, 512, REGISTER_BYTES - 1, REGISTER_BYTES + 1, 2 * REGISTER_BYTES] {
-        let mut register = vec![0x5A; length];
-        let before = register.clone();
-        assert_eq!(guarded(&mut register, |r| enrol(r, 0, 4, 1)), refused(Number::Misfit));
-        assert_eq!(guarded(&mut register, |r| withdraw(r, 0, 1, 1)), refused(Number::Misfit));
-        assert_eq!(report(&register, 0), no_report(Number::Misfit));
-        assert!(journal(&register, 0).is_empty());
-        assert_eq!(register, before, "length {length}");
+    for length in
+        [0, 1, 511, 512, 513, REGISTER_BYTES - 1, REGISTER_BYTES + 1, REGISTER_BYTES + 512, 2 * REGISTER_BYTES]
+    {
+        for content in [0, 1, 0x5A] {
+            let register = vec![content; length];
+            for call in [each_call(0), each_call(63), each_call(64), each_call(65_535)].concat() {
+                refuses(&register, call, Number::Misfit, &format!("length {length}"));
+            }
+            assert!(journal(&register, 0).is_empty());
+        }
     }
 }
 
 #[test]
 fn a_place_past_the_last_area_has_no_meter() {
-    for place in [64, 65, 255] {
-        let mut register = zeros();
-        assert_eq!(guarded(&mut register, |r| enrol(r, place, 4, 1)), refused(Number::NoMeter));
-        assert_eq!(guarded(&mut register, |r| withdraw(r, place, 1, 1)), refused(Number::NoMeter));
-        assert_eq!(report(&register, place), no_report(Number::NoMeter));
-        assert!(journal(&register, place).is_empty());
-        assert_eq!(register, zeros(), "place {place}");
+    // A meter with a read in every area, so that a place cut to one byte would find one.
+    let register = area(&[entry(STANDING, 100, 10, b'I', 0, 0)]).repeat(REGISTER_BYTES / AREA_BYTES);
+    for place in [64, 65, 127, 128, 255, 256, 257, 319, 320, 512, 32_768, 65_535] {
+        for call in each_call(place) {
+            refuses(&register, call, Number::NoMeter, "past the last area");
+            refuses(&zeros(), call, Number::NoMeter, "past the last area");
+        }
+        assert!(journal(&register, place).is_empty(), "place {place}");
     }
 }
 
@@ -52,11 +47,12 @@ fn a_place_past_the_last_area_has_no_meter() {
 fn an_area_of_zeros_has_no_meter_until_it_is_enrolled() {
     for place in [0, 1, 62, 63] {
         let mut register = zeros();
-        assert_eq!(withdraw(&mut register, place, 1, 1), refused(Number::NoMeter));
-        assert_eq!(report(&register, place), no_report(Number::NoMeter));
-        assert_eq!(guarded(&mut register, |r| enrol(r, place, 9, u32::MAX)), refused(Number::Accepted));
+        for call in each_call(place).into_iter().skip(1) {
+            refuses(&register, call, Number::NoMeter, "an area of zeros");
+        }
+        assert_eq!(guarded(&mut register, |r| enrol(r, place, 9, u32::MAX)), refusal(Number::Accepted));
         assert_eq!(register, with_area(place, &area_of(&meter(9, u32::MAX), &[])));
-        assert_eq!(report(&register, place), no_report(Number::Accepted));
+        assert_eq!(report(&register, place), refused_report(Number::Accepted));
         assert_eq!(journal(&register, place), &meter(9, u32::MAX));
     }
 }
@@ -65,7 +61,7 @@ fn an_area_of_zeros_has_no_meter_until_it_is_enrolled() {
 fn enrolment_refuses_what_is_there_and_a_bad_plate() {
     for (dials, capacity) in [(3, 1), (10, 1), (0, 1), (255, 1), (4, 0), (9, 0)] {
         let mut register = zeros();
-        assert_eq!(enrol(&mut register, 5, dials, capacity), refused(Number::Plate));
+        assert_eq!(enrol(&mut register, 5, dials, capacity), refusal(Number::Plate));
         assert_eq!(register, zeros());
     }
     for at in 0..AREA_BYTES {
@@ -73,7 +69,7 @@ fn enrolment_refuses_what_is_there_and_a_bad_plate() {
         bytes[at] = 1;
         let mut register = with_area(63, &bytes);
         let before = register.clone();
-        assert_eq!(enrol(&mut register, 63, 4, 0), refused(Number::Enrolled), "byte {at}");
+        assert_eq!(enrol(&mut register, 63, 4, 0), refusal(Number::Enrolled), "byte {at}");
         assert_eq!(register, before);
     }
 }
@@ -105,7 +101,7 @@ fn a_withdrawal_marks_the_last_read_and_takes_its_advance_back() {
         expected[6] = WITHDRAWN;
         expected[16] = WITHDRAWN;
         assert_eq!(register, with_area(place, &expected));
-        assert_eq!(report(&register, place), no_report(Number::Accepted));
+        assert_eq!(report(&register, place), refused_report(Number::Accepted));
     }
 }
 
@@ -136,7 +132,7 @@ fn a_withdrawal_names_the_last_standing_read() {
         (1180, 9400, Number::NotLast),
         (1000, 9200, Number::NotLast),
     ] {
-        assert_eq!(withdraw(&mut register, 0, day, value), refused(number), "{day} {value}");
+        assert_eq!(withdraw(&mut register, 0, day, value), refusal(number), "{day} {value}");
         assert_eq!(register, before);
     }
 }

@@ -1,54 +1,60 @@
-//! What the README tells an engineer to do: its examples are the files that are built here, and the C header names the
-//! numbers that the library answers.
+//! What the README tells an engineer to do: its code is the files that are built here, its commands print what it shows,
+//! and header and crate declare the functions that the library has, with the same numbers, words and letters.
 
-use necktureen::Number;
-use std::path::{Path, PathBuf};
+mod declarations;
+mod readme;
+mod text;
+
+use necktureen::{indicator, letter, Number, AREA_BYTES, MISSING, REGISTER_BYTES, SHEET_BYTES, TEXT_BYTES};
+use readme::{blocks, Block};
+use std::path::PathBuf;
 use std::process::Command;
+use text::{as_text, run, run_example, text};
 
-fn repository() -> PathBuf {
-    Path::new(env!("CARGO_MANIFEST_DIR")).join("..")
-}
-
-fn text(path: &str) -> String {
-    std::fs::read_to_string(repository().join(path)).unwrap_or_else(|e| panic!("{path}: {e}"))
-}
+// ---- The README ----
 
 #[test]
 fn the_readme_shows_the_examples_as_they_are_built() {
-    let readme = text("README.md");
-    for path in ["c/example.c", "rust/examples/embed.rs"] {
-        assert!(readme.contains(&text(path)), "README.md does not show {path} as it is");
+    let mut files = vec!["c/example.c", "rust/examples/embed.rs", "rust/examples/keep.rs"];
+    for block in blocks(&text("README.md")) {
+        if let Block::Fenced { word, text: code } = block {
+            if word == "text" {
+                continue;
+            }
+            let position = files.iter().position(|file| text(file) == code);
+            files.remove(position.unwrap_or_else(|| panic!("no example is this {word}:\n{code}")));
+        }
     }
+    assert!(files.is_empty(), "README.md does not show {files:?}");
 }
 
-#[test]
-fn the_c_example_builds_and_prints_its_answer() {
-    let program = std::env::temp_dir().join(format!("necktureen-example-{}", std::process::id()));
-    let root = repository();
-    let built = Command::new("gcc")
-        .args(["-Wall", "-Wextra", "-Werror", "-std=c11", "-O2", "-o"])
-        .arg(&program)
-        .arg(root.join("c/example.c"))
-        .arg("-I")
-        .arg(root.join("c"))
-        .arg(root.join("target/staticlib/libboundary.a"))
-        .status()
-        .expect("gcc runs");
-    assert!(built.success());
-    let output = Command::new(&program).output().expect("the example runs");
-    std::fs::remove_file(&program).expect("the example is removed");
-    assert_eq!(String::from_utf8_lossy(&output.stdout), "0 0 200\n");
-    assert!(output.status.success());
+/// Those that prove, and the long comparison, are left to the gate.
+fn is_slow(command: &str) -> bool {
+    ["rt ", "bash .ci/run", "NECKTUREEN_CALLS"].iter().any(|word| command.starts_with(word))
 }
 
+/// Every other command of the README ends well, by the plainest shell, and prints what is shown after it.
 #[test]
-fn the_header_names_every_number() {
-    let header = text("c/necktureen.h");
-    for number in Number::ALL {
-        let name = number.word().to_uppercase().replace([' ', '-'], "_");
-        let line = format!("    NECKTUREEN_{name} = {}", *number as u8);
-        assert!(header.lines().any(|l| l.trim_end_matches(',') == line), "no line '{line}'");
+fn the_commands_of_the_readme_print_what_it_shows() {
+    let blocks = blocks(&text("README.md"));
+    let shown = blocks.iter().filter(|block| matches!(block, Block::Fenced { word, .. } if word == "text")).count();
+    let mut compared = 0;
+    for (position, block) in blocks.iter().enumerate() {
+        let Block::Commands(command) = block else { continue };
+        let command = command.strip_prefix("rt check readday && ").unwrap_or(command);
+        if is_slow(command) {
+            continue;
+        }
+        let output = run(Command::new("sh").args(["-c", command]), &[]);
+        assert!(output.status.success(), "{command}\n{}", as_text(&output.stderr));
+        if let Some(Block::Fenced { word, text }) = blocks.get(position + 1) {
+            if word == "text" {
+                assert_eq!(&as_text(&output.stdout), text, "{command}");
+                compared += 1;
+            }
+        }
     }
+    assert_eq!(compared, shown, "what is shown after no command");
 }
 
 /// Number by number, the README's table is the paper's.
@@ -56,7 +62,119 @@ fn the_header_names_every_number() {
 fn the_readme_has_the_table_of_numbers() {
     let readme = text("README.md");
     for number in Number::ALL {
-        let row = format!("| {} | {} |", *number as u8, number.word());
+        let row = format!("| {} | {} | {} |", *number as u8, number.word(), number.when());
         assert!(readme.contains(&row), "no row '{row}'");
+    }
+}
+
+/// A register outlasts the program that wrote it.
+#[test]
+fn a_register_is_kept_in_a_file() {
+    let file = std::env::temp_dir().join(format!("necktureen-register-{}", std::process::id()));
+    let name = file.to_str().expect("a name");
+    for answer in ["0 accepted, flag 0, advance 0\n", "24 enrolled\n"] {
+        let output = run_example("keep", &[name], &[]);
+        assert_eq!(as_text(&output.stdout), answer, "{}", as_text(&output.stderr));
+        assert_eq!(std::fs::read(&file).expect("the register").len(), REGISTER_BYTES);
+    }
+    std::fs::remove_file(&file).expect("the register is removed");
+}
+
+// ---- The header ----
+
+#[test]
+fn header_crate_and_library_declare_the_same_functions() {
+    let header = declarations::of_c(&text("c/necktureen.h"));
+    let names = ["enrol", "journal", "play", "report", "submit", "withdraw"].map(|name| format!("necktureen_{name}"));
+    assert_eq!(header.keys().cloned().collect::<Vec<_>>(), names);
+    assert_eq!(declarations::of_rust(&text("rust/src/boundary.rs")), header);
+    assert_eq!(declarations::of_rust(&text("crates/necktureen/src/lib.rt")), header);
+}
+
+/// Compiles a C program as the README says, with every warning an error; `None` if it does not compile.
+fn compiled(name: &str, code: &str) -> Option<PathBuf> {
+    let program = std::env::temp_dir().join(format!("necktureen-{name}-{}", std::process::id()));
+    let flags = ["-std=c99", "-Wall", "-Wextra", "-Wpedantic", "-Wconversion", "-Werror", "-O2", "-Ic", "-x", "c", "-"];
+    let mut gcc = Command::new("gcc");
+    gcc.args(flags).args(["-x", "none", "target/staticlib/libnecktureen.a", "-o"]).arg(&program);
+    run(&mut gcc, code.as_bytes()).status.success().then_some(program)
+}
+
+/// What a C program prints.
+fn printed(name: &str, code: &str) -> String {
+    let program = compiled(name, code).expect("it compiles");
+    let output = run(&mut Command::new(&program), &[]);
+    std::fs::remove_file(&program).expect("the program is removed");
+    assert!(output.status.success(), "{}", output.status);
+    as_text(&output.stdout)
+}
+
+#[test]
+fn the_c_example_has_no_warning() {
+    assert!(printed("example", &text("c/example.c")).ends_with("C 9401: 11 BF, flag 0, advance 0\n"));
+}
+
+/// A program that prints each of these C expressions.
+fn printing(expressions: &[String]) -> String {
+    let lines: String = expressions.iter().map(|e| format!("    printf(\"%lld\\n\", (long long)({e}));\n")).collect();
+    format!("#include <stdio.h>\n#include \"necktureen.h\"\nint main(void) {{\n{lines}    return 0;\n}}\n")
+}
+
+/// The name of a C constant by its word.
+fn constant(word: &str) -> String {
+    format!("NECKTUREEN_{}", word.to_uppercase().replace([' ', '-'], "_"))
+}
+
+#[test]
+fn the_header_names_every_number_letter_and_indicator() {
+    let mut constants: Vec<(String, u64)> = vec![
+        ("NECKTUREEN_REGISTER_BYTES".into(), REGISTER_BYTES as u64),
+        ("NECKTUREEN_AREA_BYTES".into(), AREA_BYTES as u64),
+        ("NECKTUREEN_SHEET_BYTES".into(), SHEET_BYTES as u64),
+        ("NECKTUREEN_TEXT_BYTES".into(), TEXT_BYTES as u64),
+        ("NECKTUREEN_MISSING_VALUE".into(), MISSING.into()),
+    ];
+    constants.extend(Number::ALL.iter().map(|number| (constant(number.word()), *number as u64)));
+    constants.extend(letter::ALL.iter().chain(indicator::ALL).map(|(byte, word)| (constant(word), u64::from(*byte))));
+    let names: Vec<String> = constants.iter().map(|row| row.0.clone()).collect();
+    let values: String = constants.iter().map(|row| format!("{}\n", row.1)).collect();
+    assert_eq!(printed("constants", &printing(&names)), values);
+}
+
+#[test]
+fn the_header_has_a_word_for_every_number() {
+    let code =
+        "#include <stdio.h>\n#include \"necktureen.h\"\nint main(void) {\n    for (unsigned n = 0; n < 300; n++) \
+                puts(necktureen_word(n));\n    puts(necktureen_word(4294967295u));\n    return 0;\n}\n";
+    let words: Vec<String> = printed("words", code).lines().map(str::to_string).collect();
+    assert_eq!(words.len(), 301);
+    for (number, word) in words.iter().enumerate() {
+        let expected = Number::ALL.get(number).map_or("unknown", |number| number.word());
+        assert_eq!(word, expected, "{number}");
+    }
+}
+
+#[test]
+fn header_and_crate_have_one_version() {
+    let header = text("c/necktureen.h");
+    let version = env!("CARGO_PKG_VERSION");
+    assert!(header.contains(&format!("#define NECKTUREEN_VERSION \"{version}\"\n")));
+    let parts = ["MAJOR", "MINOR", "PATCH"].map(|part| format!("NECKTUREEN_VERSION_{part}"));
+    assert_eq!(printed("version", &printing(&parts)), version.replace('.', "\n") + "\n");
+}
+
+/// An int that C would cut to a place is an error with -Wconversion; a constant that fits is none.
+#[test]
+fn an_argument_that_is_too_wide_does_not_compile() {
+    let program = |place: &str| {
+        format!(
+            "#include \"necktureen.h\"\nint main(int count, char **words) {{\n    static uint8_t reg[NECKTUREEN_REGISTER_BYTES];\n    \
+             (void)words;\n    return (int)necktureen_journal(reg, sizeof reg, {place}) + (count > 99);\n}}\n"
+        )
+    };
+    let fits = compiled("fits", &program("63")).expect("it compiles");
+    std::fs::remove_file(fits).expect("the program is removed");
+    for place in ["65537", "count", "-1"] {
+        assert_eq!(compiled("wide", &program(place)), None, "{place}");
     }
 }

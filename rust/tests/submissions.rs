@@ -1,14 +1,9 @@
-//! Submissions through the compiled library: every number at least once, the edges, and the year of the demands.
+//! Submissions through the compiled library: every number that they answer, the edges, and the year of the demands.
 
 mod common;
 
 use common::*;
-use necktureen::{enrol, report, submit, withdraw, Answer, Number, Report, Submission};
-
-/// A read submitted on day 60,000 with the indicator not set and no re-read.
-fn read(day: u16, letter: u8, value: u32) -> Submission {
-    Submission { submitted: 60_000, day, value, letter, indicator: 0, reread: 0 }
-}
+use necktureen::{enrol, indicator, report, submit, withdraw, Answer, Number, Report, Submission, REGISTER_BYTES};
 
 fn taken(flag: u8, advance: i64) -> Answer {
     Answer { number: Number::Accepted, flag, advance }
@@ -24,18 +19,19 @@ fn with_reads(capacity: u32, reads: &[(u16, u8, u32)]) -> Vec<u8> {
     register
 }
 
-/// The read is refused with this number, and no byte changes.
+/// The read is refused with this number, zeros beside it, and no byte changes.
 fn refused(register: &[u8], read: Submission, number: Number) {
     let mut after = register.to_vec();
     let answer = guarded(&mut after, |r| submit(r, 0, read));
-    assert_eq!(answer, Answer { number, flag: 0, advance: 0 }, "{read:?}");
+    assert_eq!(answer, refusal(number), "{read:?}");
     assert_eq!(after, register, "{read:?} changed a byte");
 }
 
 #[test]
 fn case_s() {
     let mut register = zeros();
-    let s = |day, letter, value, indicator, reread| Submission { submitted: 1600, day, value, letter, indicator, reread };
+    let s =
+        |day, letter, value, indicator, reread| Submission { submitted: 1600, day, value, letter, indicator, reread };
     assert_eq!(enrol(&mut register, 0, 4, 5000), taken(0, 0));
     assert_eq!(submit(&mut register, 0, s(1000, b'I', 9200, 0, 0)), taken(0, 0));
     assert_eq!(submit(&mut register, 0, s(1180, b'C', 9400, 0, 0)), taken(0, 200));
@@ -67,6 +63,9 @@ fn a_withdrawn_read_does_not_come_back() {
 fn each_refusal_once() {
     let register = with_reads(5000, &[(100, b'I', 1000), (200, b'C', 1200), (300, b'F', 1400)]);
     let unset = read(400, b'C', 1600);
+    refused(&register[..REGISTER_BYTES - 1], unset, Number::Misfit);
+    refused(&zeros(), unset, Number::NoMeter);
+    refused(&with_area(0, &area(&[entry(STANDING, 100, 10, b'C', 0, 0)])), unset, Number::Damaged);
     refused(&register, Submission { value: u32::MAX, ..unset }, Number::Missing);
     refused(&register, Submission { letter: b'Z', ..unset }, Number::Content);
     refused(&register, Submission { indicator: 3, ..unset }, Number::Content);
@@ -85,7 +84,9 @@ fn each_refusal_once() {
     refused(&register, read(400, b'F', 1600), Number::At);
     refused(&with_reads(5000, &[]), Submission { indicator: 2, ..read(10, b'I', 10) }, Number::IndicatorOnOpening);
     refused(&register, Submission { reread: 1, ..unset }, Number::NoOriginal);
-    refused(&register, Submission { indicator: 2, ..unset }, Number::Ee);
+    refused(&register, Submission { indicator: indicator::TRUE, ..unset }, Number::Ee);
+    let before_the_turn = with_reads(5000, &[(100, b'I', 9400), (280, b'C', 9600), (460, b'C', 9800)]);
+    refused(&before_the_turn, Submission { indicator: indicator::FALSE, ..read(640, b'C', 50) }, Number::Ee);
     refused(&register, read(400, b'C', 300), Number::Ef);
     refused(&with_reads(365, &[(100, b'I', 1000)]), read(110, b'C', 1010), Number::Capacity);
 }
@@ -96,7 +97,7 @@ fn a_volume_query_holds_the_read() {
     for (value, number) in [(1239, Number::Low), (1601, Number::High)] {
         let mut register = with_reads(5000, &[(100, b'I', 1000), (280, b'C', 1200)]);
         let query = read(460, b'C', value);
-        assert_eq!(submit(&mut register, 0, query), Answer { number, flag: 0, advance: 0 });
+        assert_eq!(submit(&mut register, 0, query), refusal(number));
         assert_eq!(register[26..36], entry(HELD, 460, value, b'C', 0, 0));
         for other in [
             Submission { reread: 1, day: 461, ..query },

@@ -1,10 +1,11 @@
--- What a caller may know of a power and of an advance without opening them: their bounds.
-use mathlib.Core.Path.{_≡_, ap}
+-- What a caller may know of a power and of an advance without opening them: their bounds, and what a flag adds.
+use mathlib.Core.Path.{_≡_, sym, ap, _∙_}
 use mathlib.Core.Bool.{Bool, true, false, cond}
 use Prim.Native.Nat.{ℕ, _*_, _^_, _≤_, _<_}
-use native.Mathlib.Nat.{mul-le-mul, pow-le-pow-right}
+use native.Mathlib.Nat.{mul-le-mul, pow-le-pow-right, zero-mul, one-mul}
 use native.Mathlib.Omega.{arith}
 use lib.Dec.{ltb}
+use lib.IntN.{pos, _+ℤ_, _-ℤ_, +ℤ-idr}
 use borrow.Author.Tests.{ltb-true, lt-ltb, le-ltb}
 use Rattle.arithmetic.specs.Powers.{tenTo}
 use Rattle.arithmetic.specs.Advance.{advanceOf, advanceMost, Within}
@@ -32,3 +33,13 @@ turned-at-most n flags h = mul-le-mul {n₂ = 255} {m₂ = 1000000000} h (ten-at
 pub advance-within : (n newer flags older : ℕ) → newer ≤ 4294967295 → flags ≤ 255 → older ≤ 4294967295 → Within (advanceOf n newer flags older) advanceMost
 unfolding advanceOf
 advance-within n newer flags older a f b = within-sum (within-difference {m = 4294967295} a b) (within-pos (turned-at-most n flags f))
+
+-- without a flag an advance is the difference of the values, and a flag adds 10^n to it
+module _ (n newer older : ℕ) where
+  pub advance-plain : advanceOf n newer 0 older ≡ pos newer -ℤ pos older
+  unfolding advanceOf
+  advance-plain = ap (λ (k : ℕ). pos newer -ℤ pos older +ℤ pos k) (zero-mul (tenTo n)) ∙ +ℤ-idr (pos newer -ℤ pos older)
+
+  pub advance-turned : advanceOf n newer 0 older +ℤ pos (tenTo n) ≡ advanceOf n newer 1 older
+  unfolding advanceOf
+  advance-turned = rw advance-plain (ap (λ (k : ℕ). pos newer -ℤ pos older +ℤ pos k) (sym (one-mul (tenTo n))))

@@ -3,10 +3,14 @@ ghost use mathlib.Core.Path.{_≡_};
 ghost use Rattle.arithmetic.specs.Advance.{advanceOf};
 use crate::powers::power;
 
-// newer − older + flags × 10^n: negative after a step back that no flag makes good.
+// newer − older + flags × 10^n: negative after a step back that no flag makes good. Most advances have no flag, and need no power.
 pub fn advance(n: u8, newer: u32, flags: u8, older: u32) -> i64
     ensures { λ r. ⌜ r ≡ advanceOf n newer flags older ⌝ }
 {
+    let apart = (newer as i64) - (older as i64);
+    if flags == 0 {
+        return apart;
+    }
     let turned = power(n) * (flags as u64);
-    (newer as i64) - (older as i64) + (turned as i64)
+    apart + (turned as i64)
 }

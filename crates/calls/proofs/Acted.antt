@@ -12,6 +12,7 @@ use Rattle.terms.specs.declared.submission.Submission.{Submission}
 use Rattle.terms.specs.Number.{accepted}
 use Rattle.terms.specs.Rule.{firstBroken}
 use Rattle.terms.specs.Entry.{kindStanding, kindHeld, isStanding, isWithdrawn, isHeld}
+use Rattle.register.specs.declared.head.Head.{Head}
 use Rattle.register.specs.Area.{areaBytes}
 use Rattle.journal.specs.Journal.{journalOf, standing, withdrawn, heldOf}
 use Rattle.calls.specs.Checks.{takenFlag, enrolChecks, submitChecks, withdrawChecks, reportChecks}
@@ -24,25 +25,25 @@ use Rattle.calls.proofs.Accepted.{by-query, accepted-checked, query-pas
 use Rattle.calls.proofs.Withdrawn.{Withdrawn, withdrawal}
 
 -- ---- enrolment
-module _ (dials capacity : ℕ) (a : List ℕ) where
+module _ (plate : Head) (a : List ℕ) where
   abbrev enrolNumber : ℕ
-  enrolNumber = firstBroken (enrolChecks dials capacity a)
+  enrolNumber = firstBroken (enrolChecks plate a)
 
-  pub enrolment : length a ≡ areaBytes → enrolNumber ≡ accepted → Enrolled dials capacity (enrolIn dials capacity a .area)
+  pub enrolment : length a ≡ areaBytes → enrolNumber ≡ accepted → Enrolled plate (enrolIn plate a .area)
   unfolding enrolIn enrolChecks
   enrolment size h =
-      let u = unbroken 2 accepted (enrolChecks dials capacity a) refl h .0 in
-      rw (eq-eqb _ _ h) (enrolled dials capacity a size (not-false _ (u .0)) (not-false _ (u .1 .0)))
+      let u = unbroken accepted (enrolChecks plate a) refl h in
+      rw (eq-eqb _ _ h) (enrolled plate a size (not-false _ (u .0)) (not-false _ (u .1 .0)))
 
-  pub enrol-refused : eqb enrolNumber accepted ≡ false → enrolIn dials capacity a ≡ refused enrolNumber a
+  pub enrol-refused : eqb enrolNumber accepted ≡ false → enrolIn plate a ≡ refused enrolNumber a
   unfolding enrolIn
   enrol-refused h = rw h
 
-  pub enrol-unchanged : eqb enrolNumber accepted ≡ false → enrolIn dials capacity a .area ≡ a
+  pub enrol-unchanged : eqb enrolNumber accepted ≡ false → enrolIn plate a .area ≡ a
   enrol-unchanged h = ap (λ (x : Acted). x .area) (enrol-refused h)
 
 -- ---- submission
-query-refused : (number : ℕ) → isVolumeQuery number ≡ true → eqb number accepted ≡ false
+pub query-refused : (number : ℕ) → isVolumeQuery number ≡ true → eqb number accepted ≡ false
 query-refused number h = by-query (λ n. eqb n accepted ≡ false) number h refl refl
 
 module _ (s : Submission) (a : List ℕ) where

@@ -12,7 +12,7 @@ use lib.ListN.{take, drop, replicate, length-replicate}
 use Rattle.terms.specs.declared.entry.Entry.{Entry}
 use Rattle.terms.specs.Entry.{those}
 use Rattle.terms.specs.Number.{accepted}
-use Rattle.register.specs.Area.{areaBytes, areas, registerBytes, areaOf}
+use Rattle.register.specs.Area.{areaBytes, areasIn, registerBytes, areaOf}
 use Rattle.register.proofs.Areas.{area-length}
 use Rattle.journal.specs.Journal.{allZero, standing, withdrawn}
 use Rattle.calls.specs.declared.call.Call.{Call}
@@ -23,11 +23,12 @@ use Rattle.calls.specs.Kept.{isGood}
 use Rattle.calls.specs.Play.{Exchange, exchange, exchanges, registerAfter, zeroRegister, numberOf, names}
 use Rattle.calls.specs.Ledger.{Named, Ledger, emptyLedger, entered, isAccepted, ledgerAfter, ledgerOf, lastLessFirst, areNoneOf}
 use Rattle.calls.specs.DemandThree.{namesOf, RunHolds, callsB, DemandThree}
-use Rattle.calls.proofs.Frame.{Local, Whole, room, own-reply, own-area-after, step-whole, other-area, agree}
+use Rattle.calls.proofs.Frame.{Local, Whole, Near, near-all, room, own-reply, own-area-after, step-whole, other-area, agree}
 use Rattle.calls.proofs.Totals.{total-sum}
 use Rattle.calls.proofs.Names.{none-stand}
-use Rattle.calls.proofs.Effects.{standingIn, withdrawnIn, Effects}
+use Rattle.calls.proofs.Effects.{standingReads, withdrawnReads, Effects}
 use Rattle.calls.proofs.Invariant.{Fresh, Live, Good, call-good}
+use Rattle.calls.proofs.Unenrolled.{Without, without-enrolment}
 
 -- whether an exchange is accepted at a meter
 module _ (meter : ℕ) where
@@ -47,7 +48,7 @@ module _ (meter : ℕ) where
   unfolding isAccepted
   accepted-there x h = rw h
 
-module _ (local : Local) (effects : Effects) (meter : ℕ) (near : meter < areas) where
+module _ (local : Local) (effects : Effects) (meter : ℕ) (near : Near meter) where
   -- one call of a run
   module _ (call : Call) (register : List ℕ) (whole : Whole register) (l : Ledger) (good : Good (areaOf meter register) l) where
     abbrev x : Exchange
@@ -58,8 +59,8 @@ module _ (local : Local) (effects : Effects) (meter : ℕ) (near : meter < areas
 
     own : placeOf call ≡ meter → Entered
     own at =
-        let here : placeOf call < areas = omega arith in
-        let size = area-length meter register (room meter register near whole) in
+        let here : placeOf call < areasIn register = rw at (near register whole) in
+        let size = area-length meter register (room meter register (near register whole) whole) in
         let bytes : areaOf meter (step call register .register) ≡ act call (areaOf meter register) .area = cc (own-area-after local register whole call here) in
         let reply : step call register .reply ≡ act call (areaOf meter register) .reply = cc (own-reply local register whole call here) in
         rw (bytes, accepts at, reply) (call-good effects (areaOf meter register) l call size good)
@@ -97,7 +98,7 @@ zero-take zero l h = refl
 zero-take (suc n) [] h = refl
 zero-take (suc n) (b ∷ l) h = let p = both (eqb b 0) (allZero l) h in ap₂ _&&_ (p .0) (zero-take n l (p .1))
 
-zero-whole : Whole zeroRegister
+pub zero-whole : Whole zeroRegister
 unfolding zeroRegister
 zero-whole = length-replicate {A = ℕ} registerBytes 0
 
@@ -110,7 +111,7 @@ unfolding emptyLedger
 start-good meter = inl (record { zero = zero-area meter; standing-is = refl; advances-are = refl; flags-are = refl; withdrawn-is = refl })
 
 -- ---- what the invariant gives at the end of a run
-module _ (effects : Effects) (meter : ℕ) (xs : List Exchange) (register : List ℕ) where
+module _ (effects : Effects) (meter : ℕ) (xs : List Exchange) (register : List ℕ) (without : Without meter xs) where
   abbrev area : List ℕ
   area = areaOf meter register
 
@@ -124,7 +125,7 @@ module _ (effects : Effects) (meter : ℕ) (xs : List Exchange) (register : List
         sum = f .advances-are ∙ sym (ap₂ _+ℤ_ (ap lastLessFirst (f .standing-is)) (ap (λ (z : ℤ). pos (10 ^ l .dials) *ℤ z) (f .flags-are) ∙ *ℤ-zero (pos (10 ^ l .dials))));
         apart = ap (λ (rs : List Named). areNoneOf rs (l .withdrawn)) (f .standing-is);
         stand = ap (λ (es : List Entry). namesOf (standing es)) (effects .empty area (f .zero)) ∙ sym (f .standing-is);
-        unenrolled = λ none. (f .standing-is, f .advances-are, f .flags-are);
+        unenrolled = without;
         good = left-or (isSound area) (f .zero);
       }
 
@@ -135,13 +136,13 @@ module _ (effects : Effects) (meter : ℕ) (xs : List Exchange) (register : List
       record {
         sum =
             g .advances-are
-            ∙ total-sum (l .dials) few (standingIn area)
+            ∙ total-sum (l .dials) few (standingReads area)
             ∙ ap₂ _+ℤ_ (ap lastLessFirst (g .standing-is)) (ap (λ (z : ℤ). pos (10 ^ l .dials) *ℤ z) (sym (g .flags-are)));
         apart =
             ap (λ (rs : List Named). areNoneOf rs (l .withdrawn)) (sym (g .standing-is))
-            ∙ none-stand (l .withdrawn) (standingIn area) (withdrawnIn area) (effects .none-clash area (g .sound)) (g .withdrawn-are);
+            ∙ none-stand (l .withdrawn) (standingReads area) (withdrawnReads area) (effects .none-clash area (g .sound)) (g .withdrawn-are);
         stand = g .standing-is;
-        unenrolled = λ none. absurd (effects .some-dials area (g .sound) (g .dials-are ∙ none));
+        unenrolled = without;
         good = right-or (allZero area) (g .sound);
       }
 
@@ -149,16 +150,18 @@ module _ (effects : Effects) (meter : ℕ) (xs : List Exchange) (register : List
   holds good = ⊎-elim fresh-holds live-holds good
 
 -- ---- DEMAND 3
-module _ (local : Local) (effects : Effects) (meter : ℕ) (near : meter < areas) where
+module _ (local : Local) (effects : Effects) (meter : ℕ) (near : Near meter) where
   in-run : (calls : List Call) → RunHolds meter (exchanges calls zeroRegister) (registerAfter calls zeroRegister)
   unfolding ledgerOf
   in-run calls =
       holds effects meter (exchanges calls zeroRegister) (registerAfter calls zeroRegister)
+      (without-enrolment local effects meter near calls zeroRegister zero-whole (zero-area meter))
       (run-good local effects meter near calls zeroRegister zero-whole emptyLedger (start-good meter))
 
 pub demand-three : Local → Effects → DemandThree
 unfolding DemandThree
-demand-three local effects meter near calls =
+demand-three local effects meter here calls =
+    let near : Near meter = near-all meter zeroRegister zero-whole here in
     let same = agree local meter near calls zeroRegister zeroRegister zero-whole zero-whole refl in
     record {
       bytes = same .0;

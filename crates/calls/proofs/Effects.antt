@@ -15,7 +15,7 @@ use Rattle.register.specs.Area.{areaBytes}
 use Rattle.journal.specs.Journal.{journalOf, allZero, standing, withdrawn}
 use Rattle.journal.specs.Sound.{any, hasRead, areApart, isSound}
 use Rattle.calls.specs.declared.call.Call.{Call}
-use Rattle.calls.specs.declared.call.Call.the-variants.{Enrol, Submit, Withdraw, Ask}
+use Rattle.calls.specs.declared.call.Call.the-variants.{Enrol, Submit, Withdraw, Report as ReportCall}
 use Rattle.calls.specs.declared.call.Reply.{Reply}
 use Rattle.calls.specs.declared.call.Reply.the-variants.{Answered}
 use Rattle.calls.specs.Checks.{takenFlag}
@@ -24,36 +24,36 @@ use Rattle.calls.specs.Play.{numberOf, mayChange}
 use Rattle.calls.proofs.Totals.{IsFlag}
 
 -- the standing and the withdrawn reads of an area
-abbrev pub standingIn : List ℕ → List Entry
-standingIn area = standing (journalOf area .entries)
+abbrev pub standingReads : List ℕ → List Entry
+standingReads area = standing (journalOf area .entries)
 
-abbrev pub withdrawnIn : List ℕ → List Entry
-withdrawnIn area = withdrawn (journalOf area .entries)
+abbrev pub withdrawnReads : List ℕ → List Entry
+withdrawnReads area = withdrawn (journalOf area .entries)
 
 -- an accepted enrolment
 pub record Enrolled (dials : ℕ) (before after : List ℕ) : Type 0 where
   pub zero : allZero before ≡ true
   pub sound : isSound after ≡ true
-  pub dials-are : journalOf after .dials ≡ dials
-  pub none : standingIn after ≡ []
+  pub dials-are : journalOf after .head .dials ≡ dials
+  pub none : standingReads after ≡ []
 
 -- a call that leaves the standing and withdrawn reads: a held read stored
 pub record Held (before after : List ℕ) : Type 0 where
   pub was-sound : isSound before ≡ true
   pub sound : isSound after ≡ true
-  pub dials-are : journalOf after .dials ≡ journalOf before .dials
-  pub same-standing : standingIn after ≡ standingIn before
-  pub same-withdrawn : withdrawnIn after ≡ withdrawnIn before
+  pub dials-are : journalOf after .head .dials ≡ journalOf before .head .dials
+  pub same-standing : standingReads after ≡ standingReads before
+  pub same-withdrawn : withdrawnReads after ≡ withdrawnReads before
 
 -- an accepted submission
 pub record Submitted (s : Submission) (before after : List ℕ) (reply : Reply) : Type 0 where
   pub was-sound : isSound before ≡ true
   pub sound : isSound after ≡ true
-  pub dials-are : journalOf after .dials ≡ journalOf before .dials
-  pub one-more : standingIn after ≡ entryFor kindStanding s (takenFlag s (journalOf before)) ∷ standingIn before
-  pub same-withdrawn : withdrawnIn after ≡ withdrawnIn before
+  pub dials-are : journalOf after .head .dials ≡ journalOf before .head .dials
+  pub one-more : standingReads after ≡ entryFor kindStanding s (takenFlag s (journalOf before)) ∷ standingReads before
+  pub same-withdrawn : withdrawnReads after ≡ withdrawnReads before
   pub flag : IsFlag (takenFlag s (journalOf before))
-  pub first-flag : standingIn before ≡ [] → takenFlag s (journalOf before) ≡ 0
+  pub first-flag : standingReads before ≡ [] → takenFlag s (journalOf before) ≡ 0
   pub replied : reply ≡ Answered (answer accepted (takenFlag s (journalOf before)) (submittedAdvance s (journalOf before)))
 
 -- an accepted withdrawal, of the last standing read
@@ -61,22 +61,21 @@ pub record Withdrew (day value : ℕ) (before after : List ℕ) (reply : Reply) 
   pub last : Entry
   pub was-sound : isSound before ≡ true
   pub sound : isSound after ≡ true
-  pub dials-are : journalOf after .dials ≡ journalOf before .dials
-  pub one-less : standingIn before ≡ last ∷ standingIn after
+  pub dials-are : journalOf after .head .dials ≡ journalOf before .head .dials
+  pub one-less : standingReads before ≡ last ∷ standingReads after
   pub names-it : hasRead day value last ≡ true
   pub flag : IsFlag (last .flag)
-  pub first-flag : standingIn after ≡ [] → last .flag ≡ 0
-  pub keeps : (d v : ℕ) → any (hasRead d v) (withdrawnIn before) ≡ true → any (hasRead d v) (withdrawnIn after) ≡ true
-  pub has : any (hasRead day value) (withdrawnIn after) ≡ true
-  pub replied : reply ≡ Answered (answer accepted (last .flag) (negℤ (advanceOver (journalOf before .dials) (last .value) (last .flag) (slotAt (standingIn after) 0))))
+  pub first-flag : standingReads after ≡ [] → last .flag ≡ 0
+  pub keeps : (d v : ℕ) → any (hasRead d v) (withdrawnReads before) ≡ true → any (hasRead d v) (withdrawnReads after) ≡ true
+  pub has : any (hasRead day value) (withdrawnReads after) ≡ true
+  pub replied : reply ≡ Answered (answer accepted (last .flag) (negℤ (advanceOver (journalOf before .head .dials) (last .value) (last .flag) (slotAt (standingReads after) 0))))
 
 -- all of them
 pub record Effects : Type 0 where
   pub apart : (area : List ℕ) → allZero area ≡ true → isSound area ≡ true → ⊥
   pub empty : (area : List ℕ) → allZero area ≡ true → journalOf area .entries ≡ []
-  pub none-clash : (area : List ℕ) → isSound area ≡ true → areApart (standingIn area) (withdrawnIn area) ≡ true
-  pub few-dials : (area : List ℕ) → isSound area ≡ true → journalOf area .dials < 10
-  pub some-dials : (area : List ℕ) → isSound area ≡ true → journalOf area .dials ≡ 0 → ⊥
+  pub none-clash : (area : List ℕ) → isSound area ≡ true → areApart (standingReads area) (withdrawnReads area) ≡ true
+  pub few-dials : (area : List ℕ) → isSound area ≡ true → journalOf area .head .dials < 10
   pub enrol : (place dials capacity : ℕ) (area : List ℕ) → length area ≡ areaBytes →
       let after = act (Enrol place dials capacity) area in
       numberOf (after .reply) ≡ accepted → Enrolled dials area (after .area)
@@ -98,5 +97,5 @@ pub record Effects : Type 0 where
   pub withdraw-refused : (place day value : ℕ) (area : List ℕ) →
       let after = act (Withdraw place day value) area in
       (numberOf (after .reply) ≡ accepted → ⊥) → after .area ≡ area
-  pub ask : (place : ℕ) (area : List ℕ) → act (Ask place) area .area ≡ area
+  pub report : (place : ℕ) (area : List ℕ) → act (ReportCall place) area .area ≡ area
   pub size : (call : Call) (area : List ℕ) → length area ≡ areaBytes → length (act call area .area) ≡ areaBytes

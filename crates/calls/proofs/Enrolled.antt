@@ -1,4 +1,4 @@
--- An enrolment writes the meter into an area of zeros, and leaves a sound journal with no entries.
+-- An enrolment writes the head into an area of zeros, and leaves a sound journal with no entries.
 use mathlib.Core.Path.{_≡_, refl, _∙_}
 use mathlib.Core.Bool.{true}
 use mathlib.Core.List.{List, []}
@@ -6,46 +6,49 @@ use Prim.Native.Nat.{ℕ, _≤_}
 use native.Mathlib.Omega.{arith}
 use borrow.Author.Tests.{eq-eqb}
 use lib.ListN.{length, drop}
-use Rattle.arithmetic.specs.Powers.{tenTo}
+use Rattle.register.specs.declared.head.Head.{Head}
 use Rattle.register.specs.Area.{areaBytes}
-use Rattle.register.specs.Entries.{meterBytes, entryStart, putMeter}
-use Rattle.register.proofs.Back.{meter-length, meter-above, meter-kind, meter-dials, meter-capacity}
+use Rattle.register.specs.Entries.{entryStart}
+use Rattle.register.specs.Head.{headOf, headBytes, mostEntries, bodyOf, putHead}
+use Rattle.register.proofs.Back.{head-length, head-kind, head-same}
+use Rattle.register.proofs.Body.{meter-room, head-body}
 use Rattle.journal.specs.Journal.{allZero, entriesTo, journalOf}
 use Rattle.terms.specs.Entry.{those}
-use Rattle.journal.specs.Sound.{every, daysRise, opensRight, hasOneFinal, isHeldRight, areApart, areInOrder, areSound, isPlate, isMeter, isSound}
+use Rattle.journal.specs.Sound.{every, daysRise, opensRight, hasOneFinal, isHeldRight, areApart, areInOrder, areSound, isPlate, isHead, isSound}
 use Rattle.calls.proofs.Bools.{together}
-use Rattle.calls.proofs.Zeros.{zero-past}
+use Rattle.calls.proofs.Zeros.{zero-drop}
 use Rattle.calls.proofs.Shape.{entries-are, sound-from}
 
-pub record Enrolled (dials capacity : ℕ) (after : List ℕ) : Type 0 where
+pub record Enrolled (head : Head) (after : List ℕ) : Type 0 where
   pub size : length after ≡ areaBytes
   pub sound : isSound after ≡ true
-  pub journal : journalOf after ≡ record { dials = dials; capacity = capacity; entries = [] }
+  pub journal : journalOf after ≡ record { head = head; entries = [] }
 
-module _ (dials capacity : ℕ) (a : List ℕ) (size : length a ≡ areaBytes) (empty : allZero a ≡ true) (plate : isPlate dials capacity ≡ true) where
+module _ (head : Head) (a : List ℕ) (size : length a ≡ areaBytes) (empty : allZero a ≡ true) (plate : isPlate head ≡ true) where
   abbrev after : List ℕ
-  after = putMeter a dials capacity
+  after = putHead a head
 
-  room : meterBytes ≤ length a
-  room = omega arith
+  same : headOf after ≡ head
+  same = head-same a head (meter-room a size)
 
-  end : allZero (drop (entryStart 0) after) ≡ true
-  end = rw (meter-above a dials capacity (entryStart 0) (omega arith)) (zero-past a 0 (entryStart 0) (omega arith) empty)
+  few : 0 ≤ mostEntries (headOf after)
+  few = omega arith
+
+  end : allZero (drop (entryStart 0) (bodyOf after)) ≡ true
+  end = rw (head-body a head (meter-room a size)) (zero-drop (entryStart 0) (drop (headBytes head) a) (zero-drop (headBytes head) a empty))
 
   no-entries : journalOf after .entries ≡ []
   unfolding entriesTo every
-  no-entries = entries-are (tenTo dials) 0 after (omega arith) refl end
+  no-entries = entries-are after 0 few end refl
 
-  meter : isMeter after ≡ true
-  unfolding isMeter
-  meter =
-      together (eq-eqb _ _ (meter-kind a dials capacity room))
-      (rw (meter-dials a dials capacity room, meter-capacity a dials capacity room) plate)
+  good-head : isHead after ≡ true
+  unfolding isHead
+  good-head = together (eq-eqb _ _ (head-kind a head (meter-room a size))) (rw same plate)
 
-  pub enrolled : Enrolled dials capacity after
+  pub enrolled : Enrolled head after
   unfolding entriesTo every journalOf areSound areInOrder those daysRise opensRight hasOneFinal isHeldRight areApart
   enrolled = record {
-    size = meter-length a dials capacity ∙ size;
-    sound = sound-from 0 after (omega arith) meter end refl;
-    journal = λ t. record { dials = meter-dials a dials capacity room t; capacity = meter-capacity a dials capacity room t; entries = no-entries t };
+    size = head-length a head ∙ size;
+    sound = sound-from after 0 few end good-head refl;
+    journal = λ t. record { head = same t; entries = no-entries t };
   }

@@ -10,8 +10,8 @@ use native.Mathlib.Decide.{decLt}
 use borrow.Author.Tests.{eqb-true, eqb-false, eq-eqb, leb-false, leb-true, lt-leb, le-leb}
 use lib.Dec.{eqb, leb}
 use lib.ListN.{length}
-use Rattle.register.specs.Area.{areaBytes, areas, registerBytes, areaOf, withArea}
-use Rattle.register.proofs.Areas.{area-length, with-length, area-same, area-other}
+use Rattle.register.specs.Area.{areaBytes, areasIn, registerBytes, areaOf, withArea}
+use Rattle.register.proofs.Areas.{area-room, same-areas, area-length, with-length, area-same, area-other}
 use Rattle.calls.specs.declared.call.Call.{Call}
 use Rattle.calls.specs.declared.call.Reply.{Reply}
 use Rattle.calls.specs.Calls.{act, placeOf, isMisfit, isNoPlace, placeNumber, onArea, Done, step}
@@ -28,8 +28,15 @@ pub record Local : Type 0 where
 abbrev pub Whole : List ℕ → Type 0
 Whole register = length register ≡ registerBytes
 
-pub room : (p : ℕ) (register : List ℕ) → p < areas → Whole register → areaBytes * p + areaBytes ≤ length register
-room p register h whole = omega arith
+pub room : (p : ℕ) (register : List ℕ) → p < areasIn register → Whole register → areaBytes * p + areaBytes ≤ length register
+room p register near whole = area-room p register whole near
+
+-- a place that every whole register has
+abbrev pub Near : ℕ → Type 0
+Near p = (register : List ℕ) → Whole register → p < areasIn register
+
+pub near-all : (p : ℕ) (register : List ℕ) → Whole register → p < areasIn register → Near p
+near-all p register whole near other whole' = rw (same-areas other register (whole' ∙ sym whole)) near
 
 module _ (local : Local) (register : List ℕ) (whole : Whole register) (call : Call) where
   abbrev place : ℕ
@@ -44,13 +51,13 @@ module _ (local : Local) (register : List ℕ) (whole : Whole register) (call : 
   fitting = ap not (eq-eqb (length register) registerBytes whole)
 
   -- a place that the register has
-  module _ (near : place < areas) where
+  module _ (near : place < areasIn register) where
     new-length : length new ≡ areaBytes
     new-length = local .size call (areaOf place register) (area-length place register (room place register near whole))
 
     acts : step call register ≡ onArea place (act call (areaOf place register)) register
     unfolding step placeNumber isNoPlace
-    acts = rw (fitting, lt-leb areas place near)
+    acts = rw (fitting, lt-leb (areasIn register) place near)
 
     pub own-reply : step call register .reply ≡ act call (areaOf place register) .reply
     unfolding onArea
@@ -63,13 +70,13 @@ module _ (local : Local) (register : List ℕ) (whole : Whole register) (call : 
     pub own-area-after : areaOf place (step call register .register) ≡ new
     own-area-after = ap (areaOf place) put-back ∙ area-same place new register new-length (room place register near whole)
 
-  refuses : areas ≤ place → step call register .register ≡ register
+  refuses : areasIn register ≤ place → step call register .register ≡ register
   unfolding step placeNumber isNoPlace
-  refuses far = rw (fitting, le-leb areas place far)
+  refuses far = rw (fitting, le-leb (areasIn register) place far)
 
   -- case on whether the register has the place
-  by-place {ℓ} : {X : Type ℓ} → (place < areas → X) → (areas ≤ place → X) → X
-  by-place near far = by-test (leb areas place) (λ h. far (leb-true areas place h)) (λ h. near (leb-false areas place h))
+  by-place {ℓ} : {X : Type ℓ} → (place < areasIn register → X) → (areasIn register ≤ place → X) → X
+  by-place near far = by-test (leb (areasIn register) place) (λ h. far (leb-true _ place h)) (λ h. near (leb-false _ place h))
 
   pub step-whole : Whole (step call register .register)
   step-whole =
@@ -94,22 +101,25 @@ Agree meter calls =
     (areaOf meter (registerAfter calls A) ≡ areaOf meter (registerAfter (callsOf (picked meter (exchanges calls A))) B))
     × (exchanges (callsOf (picked meter (exchanges calls A))) B ≡ picked meter (exchanges calls A))
 
-module _ (local : Local) (meter : ℕ) (near : meter < areas) where
+module _ (local : Local) (meter : ℕ) (near : Near meter) where
   -- a call of the meter does the same to both, and is answered the same
   module _ (call : Call) (own : placeOf call ≡ meter) (A B : List ℕ) (wA : Whole A) (wB : Whole B) (e : areaOf meter A ≡ areaOf meter B) where
-    place-near : placeOf call < areas
-    place-near = omega arith
+    near-A : placeOf call < areasIn A
+    near-A = rw own (near A wA)
+
+    near-B : placeOf call < areasIn B
+    near-B = rw own (near B wB)
 
     same-area : areaOf meter (step call A .register) ≡ areaOf meter (step call B .register)
-    same-area = cc (own-area-after local A wA call place-near, own-area-after local B wB call place-near)
+    same-area = cc (own-area-after local A wA call near-A, own-area-after local B wB call near-B)
 
     same-reply : step call A .reply ≡ step call B .reply
-    same-reply = cc (own-reply local A wA call place-near, own-reply local B wB call place-near)
+    same-reply = cc (own-reply local A wA call near-A, own-reply local B wB call near-B)
 
   -- a refused one leaves the meter as it was
   same-refused : (call : Call) → placeOf call ≡ meter → (A : List ℕ) → Whole A → mayChange (numberOf (step call A .reply)) ≡ false → areaOf meter (step call A .register) ≡ areaOf meter A
   same-refused call own A wA h =
-      let place-near : placeOf call < areas = omega arith in
+      let place-near : placeOf call < areasIn A = rw own (near A wA) in
       let r : mayChange (numberOf (act call (areaOf (placeOf call) A) .reply)) ≡ false =
       ap (λ (y : Reply). mayChange (numberOf y)) (sym (own-reply local A wA call place-near)) ∙ h
       in

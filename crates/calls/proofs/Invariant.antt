@@ -20,7 +20,7 @@ use Rattle.register.specs.Area.{areaBytes}
 use Rattle.journal.specs.Journal.{journalOf, allZero, standing, withdrawn}
 use Rattle.journal.specs.Sound.{any, isSound}
 use Rattle.calls.specs.declared.call.Call.{Call}
-use Rattle.calls.specs.declared.call.Call.the-variants.{Enrol, Submit, Withdraw, Ask}
+use Rattle.calls.specs.declared.call.Call.the-variants.{Enrol, Submit, Withdraw, Report as ReportCall}
 use Rattle.calls.specs.declared.call.Reply.{Reply}
 use Rattle.calls.specs.Checks.{takenFlag}
 use Rattle.calls.specs.Calls.{act, entryFor, submittedAdvance, flaggedOf, totalOf}
@@ -30,7 +30,7 @@ use Rattle.calls.specs.Ledger.{Named, named, Ledger, takeOut, isAmong, f
 use Rattle.calls.specs.DemandThree.{namesOf}
 use Rattle.calls.proofs.Totals.{IsFlag, flagged-more, flagged-none, total-more, total-first}
 use Rattle.calls.proofs.Names.{AreWithdrawn, take-newest, withdrawn-more}
-use Rattle.calls.proofs.Effects.{standingIn, withdrawnIn, Enrolled, Held, Submitted, Withdrew, Effects}
+use Rattle.calls.proofs.Effects.{standingReads, withdrawnReads, Enrolled, Held, Submitted, Withdrew, Effects}
 
 -- nothing was accepted yet
 pub record Fresh (area : List ℕ) (l : Ledger) : Type 0 where
@@ -43,11 +43,11 @@ pub record Fresh (area : List ℕ) (l : Ledger) : Type 0 where
 -- the meter is enrolled
 pub record Live (area : List ℕ) (l : Ledger) : Type 0 where
   pub sound : isSound area ≡ true
-  pub dials-are : journalOf area .dials ≡ l .dials
-  pub standing-is : namesOf (standingIn area) ≡ l .standing
-  pub advances-are : l .advances ≡ totalOf (l .dials) (standingIn area)
-  pub flags-are : l .flags ≡ pos (flaggedOf (standingIn area))
-  pub withdrawn-are : AreWithdrawn (l .withdrawn) (withdrawnIn area)
+  pub dials-are : journalOf area .head .dials ≡ l .dials
+  pub standing-is : namesOf (standingReads area) ≡ l .standing
+  pub advances-are : l .advances ≡ totalOf (l .dials) (standingReads area)
+  pub flags-are : l .flags ≡ pos (flaggedOf (standingReads area))
+  pub withdrawn-are : AreWithdrawn (l .withdrawn) (withdrawnReads area)
 
 abbrev pub Good : List ℕ → Ledger → Type 0
 Good area l = Fresh area l ⊎ Live area l
@@ -118,7 +118,7 @@ module _ (effects : Effects) (area : List ℕ) (l : Ledger) where
       let g = live (u .was-sound) good in
       let f = takenFlag s (journalOf area) in
       let e = entryFor kindStanding s f in
-      let ss = standingIn area in
+      let ss = standingReads area in
       let a : ℤ = submittedAdvance s (journalOf area) in
       let more : a ≡ advanceOver (l .dials) (s .value) f (slotAt ss 0) = ap (λ (n : ℕ). advanceOver n (s .value) f (slotAt ss 0)) (g .dials-are) in
       rw (u .replied)
@@ -141,14 +141,14 @@ module _ (effects : Effects) (area : List ℕ) (l : Ledger) where
   withdraw-good place day value after reply w good =
       let g = live (w .was-sound) good in
       let e = w .last in
-      let ss = standingIn after in
+      let ss = standingReads after in
       let n = l .dials in
-      let a : ℤ = advanceOver (journalOf area .dials) (e .value) (e .flag) (slotAt ss 0) in
+      let a : ℤ = advanceOver (journalOf area .head .dials) (e .value) (e .flag) (slotAt ss 0) in
       let less : a ≡ advanceOver n (e .value) (e .flag) (slotAt ss 0) = ap (λ (m : ℕ). advanceOver m (e .value) (e .flag) (slotAt ss 0)) (g .dials-are) in
-      let total : totalOf n (standingIn area) ≡ totalOf n ss +ℤ a =
+      let total : totalOf n (standingReads area) ≡ totalOf n ss +ℤ a =
       ap (totalOf n) (w .one-less) ∙ total-after n e ss (w .flag) (w .first-flag) ∙ ap (λ (z : ℤ). totalOf n ss +ℤ z) (sym less)
       in
-      let flagged : pos (flaggedOf (standingIn area)) ≡ pos (flaggedOf ss) +ℤ pos (e .flag) =
+      let flagged : pos (flaggedOf (standingReads area)) ≡ pos (flaggedOf ss) +ℤ pos (e .flag) =
       ap pos (ap flaggedOf (w .one-less) ∙ flagged-more e ss (w .flag)) ∙ sym (pos-+ℤ-pos (flaggedOf ss) (e .flag))
       in
       rw (w .replied)
@@ -161,7 +161,7 @@ module _ (effects : Effects) (area : List ℕ) (l : Ledger) where
         flags-are =
             ap₂ _-ℤ_ (g .flags-are ∙ flagged) (flag-counts (record { number = accepted; flag = e .flag; advance = negℤ a }) (w .flag))
             ∙ +ℤ-negℤ-cancel (pos (flaggedOf ss)) (pos (e .flag));
-        withdrawn-are = withdrawn-more day value (l .withdrawn) (withdrawnIn area) (withdrawnIn after) (g .withdrawn-are) (w .keeps) (w .has);
+        withdrawn-are = withdrawn-more day value (l .withdrawn) (withdrawnReads area) (withdrawnReads after) (g .withdrawn-are) (w .keeps) (w .has);
       })
 
   -- ---- any call, accepted or not
@@ -202,7 +202,7 @@ module _ (effects : Effects) (area : List ℕ) (l : Ledger) where
       by-answer (Withdraw place day value)
       (λ h. inr (withdraw-good place day value _ (act (Withdraw place day value) area .reply) (effects .withdraw place day value area size h) good))
       (λ h. unchanged-good _ (effects .withdraw-refused place day value area h) good)
-  call-good (Ask place) size good =
-      by-answer (Ask place)
-      (λ h. unchanged-good _ (effects .ask place area) good)
-      (λ h. unchanged-good _ (effects .ask place area) good)
+  call-good (ReportCall place) size good =
+      by-answer (ReportCall place)
+      (λ h. unchanged-good _ (effects .report place area) good)
+      (λ h. unchanged-good _ (effects .report place area) good)

@@ -9,13 +9,14 @@ use lib.ListN.{length}
 use Rattle.terms.specs.declared.submission.Submission.{Submission}
 use Rattle.terms.specs.Number.{accepted}
 use Rattle.terms.specs.Rule.{firstBroken}
+use Rattle.register.specs.declared.head.Head.{Head}
 use Rattle.register.specs.Area.{areaBytes}
 use Rattle.journal.specs.Journal.{allZero}
 use Rattle.journal.specs.Sound.{isSound}
 use Rattle.calls.specs.declared.call.Call.{Call}
-use Rattle.calls.specs.declared.call.Call.the-variants.{Enrol, Submit, Withdraw, Ask}
+use Rattle.calls.specs.declared.call.Call.the-variants.{Enrol, Submit, Withdraw, Report as ReportCall}
 use Rattle.calls.specs.Checks.{enrolChecks, submitChecks, withdrawChecks}
-use Rattle.calls.specs.Calls.{isVolumeQuery, enrolIn, submitIn, withdrawIn, act}
+use Rattle.calls.specs.Calls.{isVolumeQuery, plateOf, enrolIn, submitIn, withdrawIn, act}
 use Rattle.calls.specs.Kept.{isGood, GoodArea}
 use Rattle.calls.proofs.Bools.{right-or, by-test}
 use Rattle.calls.proofs.Acted.{enrolment, enrol-unchanged, submission, volume-query, submit-unchanged, withdrawal-in, withdraw-unchanged, report-unchanged}
@@ -32,11 +33,11 @@ by-number : {X : Type 0} (number : ℕ) → (number ≡ accepted → X) → (eqb
 by-number number f g = by-test (eqb number accepted) (λ h. f (eqb-true number accepted h)) g
 
 module _ (a : List ℕ) (g : GoodArea a) where
-  enrol-keeps : (dials capacity : ℕ) → GoodArea (enrolIn dials capacity a .area)
-  enrol-keeps dials capacity =
-      by-number (firstBroken (enrolChecks dials capacity a))
-      (λ h. let w = enrolment dials capacity a (g .size) h in good-sound (w .size) (w .sound))
-      (λ h. good-same (enrol-unchanged dials capacity a h) g)
+  enrol-keeps : (plate : Head) → GoodArea (enrolIn plate a .area)
+  enrol-keeps plate =
+      by-number (firstBroken (enrolChecks plate a))
+      (λ h. let w = enrolment plate a (g .size) h in good-sound (w .size) (w .sound))
+      (λ h. good-same (enrol-unchanged plate a h) g)
 
   submit-keeps : (s : Submission) → GoodArea (submitIn s a .area)
   submit-keeps s =
@@ -55,7 +56,7 @@ module _ (a : List ℕ) (g : GoodArea a) where
 
 pub keeps : (call : Call) (a : List ℕ) → GoodArea a → GoodArea (act call a .area)
 unfolding act
-keeps (Enrol place dials capacity) a g = enrol-keeps a g dials capacity
+keeps (Enrol place dials capacity) a g = enrol-keeps a g (plateOf dials capacity)
 keeps (Submit place read) a g = submit-keeps a g read
 keeps (Withdraw place day value) a g = withdraw-keeps a g day value
-keeps (Ask place) a g = good-same (report-unchanged a) g
+keeps (ReportCall place) a g = good-same (report-unchanged a) g

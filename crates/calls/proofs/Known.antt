@@ -1,4 +1,4 @@
--- The calls have the effects that the theorem about lists uses: each is read off the laws of crate `sound`.
+-- The calls have the effects that the theorem about lists uses: each is read off the laws about one call (`Acted`).
 use mathlib.Core.Path.{_≡_, refl, sym, ap, _∙_}
 use mathlib.Core.Logic.{inl, inr}
 use mathlib.Core.Bool.{Bool, true, false, not, _&&_, _||_}
@@ -9,7 +9,7 @@ use borrow.Author.Tests.{eqb-true, eqb-false, eq-eqb, ne-eqb, leb-true, not-fals
 use lib.Dec.{eqb, leb, ltb}
 use lib.IntN.{negℤ}
 use lib.ListN.{length}
-use Rattle.arithmetic.specs.Powers.{tenTo}
+use Rattle.register.specs.declared.head.Head.{Head}
 use Rattle.terms.specs.declared.entry.Entry.{Entry}
 use Rattle.terms.specs.declared.entry.Slot.{Slot}
 use Rattle.terms.specs.declared.entry.Slot.the-variants.{Read, Empty}
@@ -22,17 +22,18 @@ use Rattle.rules.specs.Volume.{advanceOver}
 use Rattle.terms.specs.Rule.{firstBroken}
 use Rattle.register.specs.Area.{areaBytes}
 use Rattle.register.specs.Bytes.{byteAt}
-use Rattle.register.specs.Entries.{dialsOf, capacityOf, entryStart}
+use Rattle.register.specs.Entries.{entryStart}
+use Rattle.register.specs.Head.{headOf, headBytes, bodyOf}
 use Rattle.journal.specs.Journal.{Journal, journalOf, allZero, entriesTo, standing}
-use Rattle.journal.specs.Sound.{every, leastDials, mostDials, isMeter, isPlate, isBody, isRead, opensRight, isSound}
+use Rattle.journal.specs.Sound.{every, leastDials, mostDials, isHead, isPlate, holds, takes, opens, isInRange, isRead, opensRight, isSound}
 use Rattle.calls.specs.declared.call.Call.{Call}
-use Rattle.calls.specs.declared.call.Call.the-variants.{Enrol, Submit, Withdraw, Ask}
+use Rattle.calls.specs.declared.call.Call.the-variants.{Enrol, Submit, Withdraw, Report as ReportCall}
 use Rattle.calls.specs.declared.call.Reply.the-variants.{Answered}
 use Rattle.calls.specs.Checks.{enrolChecks, submitChecks, withdrawChecks}
-use Rattle.calls.specs.Calls.{act, Acted, entryFor, enrolIn, submitIn, withdrawIn, withdrawnAnswer, isVolumeQuery}
+use Rattle.calls.specs.Calls.{act, Acted, plateOf, entryFor, enrolIn, submitIn, withdrawIn, withdrawnAnswer, isVolumeQuery}
 use Rattle.calls.proofs.Bools.{both, neither, by-test}
 use Rattle.calls.proofs.Broken.{unbroken}
-use Rattle.calls.proofs.Zeros.{zero-at, zero-past}
+use Rattle.calls.proofs.Zeros.{zero-at, zero-drop}
 use Rattle.calls.proofs.Lists.{every-those}
 use Rattle.calls.proofs.Clauses.{Clauses, clauses-of}
 use Rattle.calls.proofs.Shape.{sounds, entries-are}
@@ -42,7 +43,7 @@ use Rattle.calls.proofs.Acted.{enrolment, enrol-unchanged, submission, 
 use Rattle.calls.specs.Play.{numberOf, mayChange}
 use Rattle.calls.proofs.Frame.{Local}
 use Rattle.calls.proofs.Totals.{IsFlag}
-use Rattle.calls.proofs.Effects.{standingIn, Enrolled, Held, Submitted, Withdrew, Effects}
+use Rattle.calls.proofs.Effects.{standingReads, Enrolled, Held, Submitted, Withdrew, Effects}
 
 -- ---- a flag of at most 1
 small : (f : ℕ) → f ≤ 1 → IsFlag f
@@ -52,22 +53,22 @@ small f h = by-test (eqb f 0) (λ t. inl (eqb-true f 0 t)) (λ t. let ne = eqb-f
 fifth : (a b c d e f : Bool) → a && (b && (c && (d && (e && f)))) ≡ true → e ≡ true
 fifth a b c d e f h = both e f (both d _ (both c _ (both b _ (both a _ h .1) .1) .1) .1) .0
 
-flag-bound : (limit : ℕ) (e : Entry) → isBody limit e ≡ true → leb (e .flag) 1 ≡ true
-unfolding isBody
-flag-bound limit e h =
-    fifth (not (eqb (e .day) 0)) (ltb (e .value) limit) (isKnown (e .letter)) (leb (e .indicator) indicatorTrue) (leb (e .flag) 1) (not (isOpening (e .letter)) || eqb (e .indicator) indicatorNotSet) h
+flag-bound : (head : Head) (e : Entry) → isInRange head e ≡ true → leb (e .flag) 1 ≡ true
+unfolding isInRange
+flag-bound head e h =
+    fifth (not (eqb (e .day) 0)) (holds head (e .value)) (takes head (e .letter)) (leb (e .indicator) indicatorTrue) (leb (e .flag) 1) (not (isOpening (e .letter)) || eqb (e .indicator) indicatorNotSet) h
 
 -- ---- a sound area
 module _ (area : List ℕ) (sound : isSound area ≡ true) where
-  abbrev limit : ℕ
-  limit = tenTo (journalOf area .dials)
+  abbrev head : Head
+  head = headOf area
 
-  clauses : Clauses limit (journalOf area .entries)
-  clauses = clauses-of limit (journalOf area .entries) (sounds area sound .sound)
+  clauses : Clauses head (journalOf area .entries)
+  clauses = clauses-of head (journalOf area .entries) (sounds area sound .sound)
 
-  plated : (eqb (byteAt area 0) kindMeter ≡ true) × (isPlate (dialsOf area) (capacityOf area) ≡ true)
-  unfolding isMeter
-  plated = both (eqb (byteAt area 0) kindMeter) (isPlate (dialsOf area) (capacityOf area)) (sounds area sound .meter)
+  plated : (eqb (byteAt area 0) kindMeter ≡ true) × (isPlate head ≡ true)
+  unfolding isHead
+  plated = both (eqb (byteAt area 0) kindMeter) (isPlate head) (sounds area sound .head)
 
   not-zero : allZero area ≡ true → ⊥
   not-zero zero =
@@ -75,43 +76,36 @@ module _ (area : List ℕ) (sound : isSound area ≡ true) where
       let none : byteAt area 0 ≡ 0 = zero-at area 0 zero in
       omega arith
 
-  dials-few : journalOf area .dials < 10
+  dials-few : journalOf area .head .dials < 10
   unfolding isPlate journalOf
   dials-few =
-      let upper : leb (dialsOf area) mostDials ≡ true = both _ (not (eqb (capacityOf area) 0)) (both (leb leastDials (dialsOf area)) _ (plated .1) .1) .0 in
-      let most : dialsOf area ≤ mostDials = leb-true (dialsOf area) mostDials upper in
+      let upper : leb (head .dials) mostDials ≡ true = both _ (not (eqb (head .capacity) 0)) (both (leb leastDials (head .dials)) _ (plated .1) .1) .0 in
+      let most : head .dials ≤ mostDials = leb-true (head .dials) mostDials upper in
       omega arith
 
-  dials-some : journalOf area .dials ≡ 0 → ⊥
-  unfolding isPlate journalOf
-  dials-some none =
-      let lower : leb leastDials (dialsOf area) ≡ true = both (leb leastDials (dialsOf area)) _ (plated .1) .0 in
-      let least : leastDials ≤ dialsOf area = leb-true leastDials (dialsOf area) lower in
-      omega arith
-
-  module _ (e : Entry) (ss : List Entry) (stands : standingIn area ≡ e ∷ ss) where
-    newest-read : isRead limit e ≡ true
+  module _ (e : Entry) (ss : List Entry) (stands : standingReads area ≡ e ∷ ss) where
+    newest-read : isRead head e ≡ true
     unfolding every
     newest-read =
-        let all : every (isRead limit) (e ∷ ss) ≡ true = rw stands at (every-those (isRead limit) isStanding (journalOf area .entries) (clauses .reads)) in
-        both (isRead limit e) (every (isRead limit) ss) all .0
+        let all : every (isRead head) (e ∷ ss) ≡ true = rw stands at (every-those (isRead head) isStanding (journalOf area .entries) (clauses .reads)) in
+        both (isRead head e) (every (isRead head) ss) all .0
 
     newest-flag : IsFlag (e .flag)
     unfolding isRead
-    newest-flag = small (e .flag) (leb-true (e .flag) 1 (flag-bound limit e (both (isStanding e || (isWithdrawn e || isHeld e)) (isBody limit e) newest-read .1)))
+    newest-flag = small (e .flag) (leb-true (e .flag) 1 (flag-bound head e (both (isStanding e || (isWithdrawn e || isHeld e)) (isInRange head e) newest-read .1)))
 
     only-flag : ss ≡ [] → e .flag ≡ 0
-    unfolding opensRight
+    unfolding opensRight opens
     only-flag none =
-        let opens : opensRight (e ∷ []) ≡ true = rw (stands, none) at (clauses .opens) in
+        let opens : opensRight head (e ∷ []) ≡ true = rw (stands, none) at (clauses .opens) in
         eqb-true (e .flag) 0 (both (isOpening (e .letter)) (eqb (e .flag) 0) opens .1)
 
 -- ---- the number that a call answers is that of its checks
-module _ (dials capacity : ℕ) (area : List ℕ) where
+module _ (plate : Head) (area : List ℕ) where
   abbrev enrolNumber : ℕ
-  enrolNumber = firstBroken (enrolChecks dials capacity area)
+  enrolNumber = firstBroken (enrolChecks plate area)
 
-  enrol-number : numberOf (enrolIn dials capacity area .reply) ≡ enrolNumber
+  pub enrol-number : numberOf (enrolIn plate area .reply) ≡ enrolNumber
   unfolding enrolIn numberOf
   enrol-number = by-test (eqb enrolNumber accepted) (λ h. rw h (sym (eqb-true enrolNumber accepted h))) (λ h. rw h)
 
@@ -119,7 +113,7 @@ module _ (s : Submission) (area : List ℕ) where
   abbrev submitNumber : ℕ
   submitNumber = firstBroken (submitChecks s area)
 
-  submit-number : numberOf (submitIn s area .reply) ≡ submitNumber
+  pub submit-number : numberOf (submitIn s area .reply) ≡ submitNumber
   unfolding submitIn numberOf
   submit-number =
       by-test (eqb submitNumber accepted)
@@ -135,11 +129,11 @@ module _ (day value : ℕ) (area : List ℕ) where
   answer-number n (Read e) second = refl
   answer-number n Empty second = refl
 
-  withdraw-number : numberOf (withdrawIn day value area .reply) ≡ withdrawNumber
+  pub withdraw-number : numberOf (withdrawIn day value area .reply) ≡ withdrawNumber
   unfolding withdrawIn numberOf
   withdraw-number =
       by-test (eqb withdrawNumber accepted)
-      (λ h. rw h (answer-number (journalOf area .dials) _ _ ∙ sym (eqb-true withdrawNumber accepted h)))
+      (λ h. rw h (answer-number (journalOf area .head .dials) _ _ ∙ sym (eqb-true withdrawNumber accepted h)))
       (λ h. rw h)
 
 -- ---- what the accepted calls do
@@ -147,13 +141,13 @@ module _ (place dials capacity : ℕ) (area : List ℕ) (size : length area ≡ 
   known-enrol : numberOf (act (Enrol place dials capacity) area .reply) ≡ accepted → Enrolled dials area (act (Enrol place dials capacity) area .area)
   unfolding act those enrolChecks
   known-enrol h =
-      let number : enrolNumber dials capacity area ≡ accepted = sym (enrol-number dials capacity area) ∙ h in
-      let e = enrolment dials capacity area size number in
-      let u = unbroken 2 accepted (enrolChecks dials capacity area) refl number .0 in
+      let number : enrolNumber (plateOf dials capacity) area ≡ accepted = sym (enrol-number (plateOf dials capacity) area) ∙ h in
+      let e = enrolment (plateOf dials capacity) area size number in
+      let u = unbroken accepted (enrolChecks (plateOf dials capacity) area) refl number in
       record {
         zero = not-false (allZero area) (u .0);
         sound = e .sound;
-        dials-are = ap (λ (j : Journal). j .dials) (e .journal);
+        dials-are = ap (λ (j : Journal). j .head .dials) (e .journal);
         none = ap (λ (j : Journal). standing (j .entries)) (e .journal);
       }
 
@@ -170,7 +164,7 @@ module _ (place : ℕ) (s : Submission) (area : List ℕ) (size : length area �
       record {
         was-sound = accepted-checked s area number .sound;
         sound = w .sound;
-        dials-are = ap (λ (j : Journal). j .dials) (w .journal);
+        dials-are = ap (λ (j : Journal). j .head .dials) (w .journal);
         one-more = more;
         same-withdrawn = accepted-withdrawn s area size number;
         flag = newest-flag (after .area) (w .sound) _ _ more;
@@ -187,20 +181,20 @@ module _ (place : ℕ) (s : Submission) (area : List ℕ) (size : length area �
       record {
         was-sound = query-passed s area query .sound;
         sound = w .sound;
-        dials-are = ap (λ (j : Journal). j .dials) (w .journal);
+        dials-are = ap (λ (j : Journal). j .head .dials) (w .journal);
         same-standing = query-standing s area size query;
         same-withdrawn = query-withdrawn s area size query;
       }
 
 module _ (place day value : ℕ) (area : List ℕ) (size : length area ≡ areaBytes) where
   abbrev n : ℕ
-  n = journalOf area .dials
+  n = journalOf area .head .dials
 
-  withdraw-reply : withdrawNumber day value area ≡ accepted → withdrawIn day value area .reply ≡ Answered (withdrawnAnswer n (slotAt (standingIn area) 0) (slotAt (standingIn area) 1))
+  withdraw-reply : withdrawNumber day value area ≡ accepted → withdrawIn day value area .reply ≡ Answered (withdrawnAnswer n (slotAt (standingReads area) 0) (slotAt (standingReads area) 1))
   unfolding withdrawIn
   withdraw-reply h = rw (eq-eqb (withdrawNumber day value area) accepted h)
 
-  last-answer : (r : Entry) {ss : List Entry} → standingIn area ≡ r ∷ ss → withdrawnAnswer n (slotAt (standingIn area) 0) (slotAt (standingIn area) 1) ≡ answer accepted (r .flag) (negℤ (advanceOver n (r .value) (r .flag) (slotAt ss 0)))
+  last-answer : (r : Entry) {ss : List Entry} → standingReads area ≡ r ∷ ss → withdrawnAnswer n (slotAt (standingReads area) 0) (slotAt (standingReads area) 1) ≡ answer accepted (r .flag) (negℤ (advanceOver n (r .value) (r .flag) (slotAt ss 0)))
   unfolding withdrawnAnswer slotAt
   last-answer r e = rw e
 
@@ -214,7 +208,7 @@ module _ (place day value : ℕ) (area : List ℕ) (size : length area ≡ areaB
         last = w .read;
         was-sound = sound;
         sound = w .sound;
-        dials-are = ap (λ (j : Journal). j .dials) (w .journal);
+        dials-are = ap (λ (j : Journal). j .head .dials) (w .journal);
         one-less = w .stood;
         names-it = w .named;
         flag = newest-flag area sound (w .read) _ (w .stood);
@@ -225,9 +219,13 @@ module _ (place day value : ℕ) (area : List ℕ) (size : length area ≡ areaB
       }
 
 -- ---- all of them
+empty-body : (area : List ℕ) → allZero area ≡ true → allZero (bodyOf area) ≡ true
+unfolding bodyOf
+empty-body area zero = zero-drop (headBytes (headOf area)) area zero
+
 empty-entries : (area : List ℕ) → allZero area ≡ true → journalOf area .entries ≡ []
 unfolding entriesTo every
-empty-entries area zero = entries-are 0 0 area (omega arith) refl (zero-past area 0 (entryStart 0) (omega arith) zero)
+empty-entries area zero = entries-are area 0 (omega arith) (zero-drop (entryStart 0) (bodyOf area) (empty-body area zero)) refl
 
 -- a refused call leaves the area; so does a report
 by-number : (number : ℕ) {answered : ℕ} → answered ≡ number → (answered ≡ accepted → ⊥) → eqb number accepted ≡ false
@@ -247,9 +245,9 @@ kept-size e size = ap length e ∙ size
 size-after : (call : Call) (area : List ℕ) → length area ≡ areaBytes → length (act call area .area) ≡ areaBytes
 unfolding act
 size-after (Enrol place dials capacity) area size =
-    by-test (eqb (enrolNumber dials capacity area) accepted)
-    (λ h. enrolment dials capacity area size (eqb-true _ _ h) .size)
-    (λ h. kept-size (enrol-unchanged dials capacity area h) size)
+    by-test (eqb (enrolNumber (plateOf dials capacity) area) accepted)
+    (λ h. enrolment (plateOf dials capacity) area size (eqb-true _ _ h) .size)
+    (λ h. kept-size (enrol-unchanged (plateOf dials capacity) area h) size)
 size-after (Submit place s) area size =
     by-test (eqb (submitNumber s area) accepted)
     (λ h. submission s area size (eqb-true _ _ h) .size)
@@ -261,7 +259,7 @@ size-after (Withdraw place day value) area size =
     by-test (eqb (withdrawNumber day value area) accepted)
     (λ h. withdrawal-in day value area size (eqb-true _ _ h) .size)
     (λ h. kept-size (withdraw-unchanged day value area h) size)
-size-after (Ask place) area size = kept-size (report-unchanged area) size
+size-after (ReportCall place) area size = kept-size (report-unchanged area) size
 
 pub effects : Effects
 unfolding act
@@ -271,15 +269,14 @@ effects =
       empty = empty-entries;
       none-clash = λ area sound. clauses area sound .apart;
       few-dials = dials-few;
-      some-dials = dials-some;
       enrol = known-enrol;
       submit = known-submit;
       hold = known-hold;
       withdraw = known-withdraw;
-      enrol-refused = λ place dials capacity area h. enrol-unchanged dials capacity area (by-number _ (enrol-number dials capacity area) h);
+      enrol-refused = λ place dials capacity area h. enrol-unchanged (plateOf dials capacity) area (by-number _ (enrol-number (plateOf dials capacity) area) h);
       submit-refused = λ place s area h. submit-left s area h;
       withdraw-refused = λ place day value area h. withdraw-unchanged day value area (by-number _ (withdraw-number day value area) h);
-      ask = λ place area. report-unchanged area;
+      report = λ place area. report-unchanged area;
       size = size-after;
     }
 
@@ -292,7 +289,7 @@ unchanged : (call : Call) (area : List ℕ) → mayChange (numberOf (act call ar
 unchanged (Enrol place dials capacity) area h = effects .enrol-refused place dials capacity area (never-accepted _ h)
 unchanged (Submit place s) area h = effects .submit-refused place s area h
 unchanged (Withdraw place day value) area h = effects .withdraw-refused place day value area (never-accepted _ h)
-unchanged (Ask place) area h = effects .ask place area
+unchanged (ReportCall place) area h = effects .report place area
 
 pub local : Local
 local = record { size = effects .size; unchanged = unchanged }

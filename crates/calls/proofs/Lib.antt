@@ -17,6 +17,8 @@ pub mod Totals
 pub mod Names
 pub mod Effects
 pub mod Invariant
+pub mod Unenrolled
 pub mod Chains
 pub mod Known
 pub mod KeptAll
+pub mod Refusals

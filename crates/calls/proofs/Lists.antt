@@ -6,12 +6,12 @@ use Prim.Native.Nat.{ℕ, suc}
 use borrow.Author.Tests.{eqb-true, not-true}
 use lib.Dec.{eqb}
 use lib.ListN.{length}
+use Rattle.register.specs.declared.head.Head.{Head}
 use Rattle.terms.specs.declared.entry.Entry.{Entry}
 use Rattle.terms.specs.declared.entry.Slot.the-variants.{Empty}
 use Rattle.terms.specs.Entry.{kindStanding, kindWithdrawn, kindHeld, isStanding, isWithdrawn, isHeld, keepIf, those}
-use Rattle.journal.specs.Journal.{isKept, standing, withdrawn, kept, slotIf, heldOf}
-use Rattle.journal.specs.Sound.{every, any, isBody, isRead, isHeldRight}
-use Rattle.journal.specs.Survey.{isThere}
+use Rattle.journal.specs.Journal.{isKept, standing, withdrawn, kept, slotIf, heldOf, isThere}
+use Rattle.journal.specs.Sound.{every, any, isInRange, isRead, isHeldRight}
 use Rattle.calls.proofs.Bools.{both, together, neither, or-false, left-or, right-or, apart, by-test}
 
 -- ---- those of those
@@ -50,10 +50,10 @@ last-or true y h = refl
 last-or false true h = refl
 last-or false false h = h
 
-module _ (limit : ℕ) (e : Entry) (h : isRead limit e ≡ true) where
+module _ (head : Head) (e : Entry) (h : isRead head e ≡ true) where
   kinds : isStanding e || (isWithdrawn e || isHeld e) ≡ true
   unfolding isRead
-  kinds = both (isStanding e || (isWithdrawn e || isHeld e)) (isBody limit e) h .0
+  kinds = both (isStanding e || (isWithdrawn e || isHeld e)) (isInRange head e) h .0
 
   -- a read has a kind
   pub has-kind : eqb (e .kind) 0 ≡ false
@@ -72,13 +72,13 @@ module _ (limit : ℕ) (e : Entry) (h : isRead limit e ≡ true) where
       (λ t. rw t (last-or (isStanding e) (isWithdrawn e) (rw t at kinds)))
 
 -- ---- where none is held, all are kept
-pub all-kept : (limit : ℕ) (es : List Entry) → every (isRead limit) es ≡ true → any isHeld es ≡ false → those isKept es ≡ es
+pub all-kept : (head : Head) (es : List Entry) → every (isRead head) es ≡ true → any isHeld es ≡ false → those isKept es ≡ es
 unfolding those every any
-all-kept limit [] r h = refl
-all-kept limit (e ∷ es) r h =
-    let r' = both (isRead limit e) (every (isRead limit) es) r in
+all-kept head [] r h = refl
+all-kept head (e ∷ es) r h =
+    let r' = both (isRead head e) (every (isRead head) es) r in
     let h' = neither (isHeld e) (any isHeld es) h in
-    rw (kept-unless-held limit e (r' .0), h' .0, all-kept limit es (r' .1) (h' .1))
+    rw (kept-unless-held head e (r' .0), h' .0, all-kept head es (r' .1) (h' .1))
 
 -- ---- and none that is kept is held
 kept-not-held : (e : Entry) → isKept e ≡ true → isHeld e ≡ false
@@ -114,18 +114,18 @@ pub withdrawn-kept : (es : List Entry) → withdrawn (those isKept es) ≡ withd
 withdrawn-kept = those-those isWithdrawn isKept (λ e. right-or (isStanding e))
 
 -- ---- a journal whose held read comes last: that read, if there is one, and the kept ones
-module _ (limit : ℕ) (e : Entry) (es : List Entry) (r : every (isRead limit) (e ∷ es) ≡ true) (h : isHeldRight (e ∷ es) ≡ true) where
+module _ (head : Head) (e : Entry) (es : List Entry) (r : every (isRead head) (e ∷ es) ≡ true) (h : isHeldRight (e ∷ es) ≡ true) where
   -- all before the newest are kept
   pub rest-kept : those isKept es ≡ es
   unfolding every isHeldRight
   rest-kept =
-      all-kept limit es
-      (both (isRead limit e) (every (isRead limit) es) r .1)
+      all-kept head es
+      (both (isRead head e) (every (isRead head) es) r .1)
       (not-true (any isHeld es) (both (not (any isHeld es)) _ h .0))
 
   pub newest-kept : isKept e ≡ not (isHeld e)
   unfolding every
-  newest-kept = kept-unless-held limit e (both (isRead limit e) (every (isRead limit) es) r .0)
+  newest-kept = kept-unless-held head e (both (isRead head e) (every (isRead head) es) r .0)
 
 length-split : (b : Bool) (e : Entry) (es : List Entry) → suc (length es) ≡ cond (isThere (slotIf b e Empty)) (suc (length (keepIf (not b) e es))) (length (keepIf (not b) e es))
 unfolding isThere
@@ -133,7 +133,7 @@ length-split true e es = refl
 length-split false e es = refl
 
 -- how many there are, with and without a held one
-pub kept-and-held : (limit : ℕ) (es : List Entry) → every (isRead limit) es ≡ true → isHeldRight es ≡ true → length es ≡ cond (isThere (heldOf es)) (suc (kept es)) (kept es)
+pub kept-and-held : (head : Head) (es : List Entry) → every (isRead head) es ≡ true → isHeldRight es ≡ true → length es ≡ cond (isThere (heldOf es)) (suc (kept es)) (kept es)
 unfolding those heldOf isThere
-kept-and-held limit [] r h = refl
-kept-and-held limit (e ∷ es) r h = rw (rest-kept limit e es r h, newest-kept limit e es r h) (length-split (isHeld e) e es)
+kept-and-held head [] r h = refl
+kept-and-held head (e ∷ es) r h = rw (rest-kept head e es r h, newest-kept head e es r h) (length-split (isHeld e) e es)

@@ -6,12 +6,12 @@ use Prim.Native.Nat.{ℕ, _≤_, _<_}
 use native.Mathlib.Omega.{arith}
 use borrow.Author.Tests.{eqb-true, ltb-true, ne-eqb, not-true}
 use lib.ListN.{length}
+use Rattle.register.specs.declared.head.Head.{Head}
 use Rattle.terms.specs.declared.entry.Entry.{Entry}
 use Rattle.terms.specs.Entry.{kindStanding, kindWithdrawn, isStanding, isWithdrawn, isHeld, keepIf, those}
 use Rattle.terms.specs.Letter.{isOpening}
-use Rattle.journal.specs.Journal.{isKept, standing, withdrawn}
-use Rattle.journal.specs.Sound.{every, any, isBody, isRead, daysRise, opensRight, isFinalRead, hasOneFinal, hasRead, isApartFrom, areApart, isHeldRight, isLater, areSound}
-use Rattle.journal.specs.Survey.{newestAt}
+use Rattle.journal.specs.Journal.{isKept, standing, withdrawn, newestAt}
+use Rattle.journal.specs.Sound.{every, any, isInRange, isRead, daysRise, opensRight, isFinalRead, hasOneFinal, hasRead, isApartFrom, areApart, isHeldRight, isLater, areSound}
 use Rattle.journal.proofs.Entries.{any-kept}
 use Rattle.calls.proofs.Bools.{both, together, neither, or-false, apart, by-test}
 use Rattle.calls.proofs.Lists.{none-held-right, rest-kept}
@@ -99,18 +99,18 @@ every-withdrawn p r ss es h t g =
     ∙ together t (sym (every-any p (withdrawn es)) ∙ g)
 
 -- ---- it is a list of reads as before, none of them held
-withdrawn-read : (limit : ℕ) (e : Entry) → isRead limit e ≡ true → isRead limit (withdrawnOf e) ≡ true
-unfolding isRead isBody isStanding isWithdrawn
-withdrawn-read limit e h = both (isStanding e || (isWithdrawn e || isHeld e)) (isBody limit e) h .1
+withdrawn-read : (head : Head) (e : Entry) → isRead head e ≡ true → isRead head (withdrawnOf e) ≡ true
+unfolding isRead isInRange isStanding isWithdrawn
+withdrawn-read head e h = both (isStanding e || (isWithdrawn e || isHeld e)) (isInRange head e) h .1
 
-newest-reads : (limit : ℕ) (es : List Entry) → every (isRead limit) es ≡ true → every (isRead limit) (newestWithdrawn es) ≡ true
+newest-reads : (head : Head) (es : List Entry) → every (isRead head) es ≡ true → every (isRead head) (newestWithdrawn es) ≡ true
 unfolding every newestWithdrawn
-newest-reads limit [] h = refl
-newest-reads limit (e ∷ es) h =
-    let h' = both (isRead limit e) (every (isRead limit) es) h in
+newest-reads head [] h = refl
+newest-reads head (e ∷ es) h =
+    let h' = both (isRead head e) (every (isRead head) es) h in
     by-test (isStanding e)
-    (λ t. rw t (together (withdrawn-read limit e (h' .0)) (h' .1)))
-    (λ t. rw t (together (h' .0) (newest-reads limit es (h' .1))))
+    (λ t. rw t (together (withdrawn-read head e (h' .0)) (h' .1)))
+    (λ t. rw t (together (h' .0) (newest-reads head es (h' .1))))
 
 pub newest-none-held : (es : List Entry) → any isHeld es ≡ false → any isHeld (newestWithdrawn es) ≡ false
 unfolding any newestWithdrawn
@@ -127,10 +127,10 @@ unfolding daysRise
 days-tail r [] h = refl
 days-tail r (s ∷ ss) h = both (isLater r s) (daysRise (s ∷ ss)) h .1
 
-opens-tail : (r : Entry) (ss : List Entry) → opensRight (r ∷ ss) ≡ true → opensRight ss ≡ true
+opens-tail : (head : Head) (r : Entry) (ss : List Entry) → opensRight head (r ∷ ss) ≡ true → opensRight head ss ≡ true
 unfolding opensRight
-opens-tail r [] h = refl
-opens-tail r (s ∷ ss) h = both (not (isOpening (r .letter))) (opensRight (s ∷ ss)) h .1
+opens-tail head r [] h = refl
+opens-tail head r (s ∷ ss) h = both (not (isOpening (r .letter))) (opensRight head (s ∷ ss)) h .1
 
 final-tail : (r : Entry) (ss : List Entry) → hasOneFinal (r ∷ ss) ≡ true → hasOneFinal ss ≡ true
 unfolding hasOneFinal
@@ -158,19 +158,19 @@ apart-tail r ss w h =
     ap not (neither (hasRead (w .day) (w .value) r) (any (hasRead (w .day) (w .value)) ss) (not-true _ h) .1)
 
 -- ---- a sound list of kept entries stays sound
-pub newest-sound : (limit : ℕ) (r : Entry) (ss es : List Entry) → standing es ≡ r ∷ ss → any isHeld es ≡ false → areSound limit es ≡ true → areSound limit (newestWithdrawn es) ≡ true
+pub newest-sound : (head : Head) (r : Entry) (ss es : List Entry) → standing es ≡ r ∷ ss → any isHeld es ≡ false → areSound head es ≡ true → areSound head (newestWithdrawn es) ≡ true
 unfolding areApart
-newest-sound limit r ss es st none h =
-    let c = clauses-of limit es h in
+newest-sound head r ss es st none h =
+    let c = clauses-of head es h in
     let rise : daysRise (r ∷ ss) ≡ true = rw st at (c .rise) in
-    let opens : opensRight (r ∷ ss) ≡ true = rw st at (c .opens) in
+    let opens : opensRight head (r ∷ ss) ≡ true = rw st at (c .opens) in
     let final : hasOneFinal (r ∷ ss) ≡ true = rw st at (c .final) in
     let apart : every (isApartFrom (r ∷ ss)) (withdrawn es) ≡ true = rw st at (c .apart) in
     let now = newest-standing r ss es st in
-    of-clauses limit (newestWithdrawn es) (record {
-      reads = newest-reads limit es (c .reads);
+    of-clauses head (newestWithdrawn es) (record {
+      reads = newest-reads head es (c .reads);
       rise = rw now (days-tail r ss rise);
-      opens = rw now (opens-tail r ss opens);
+      opens = rw now (opens-tail head r ss opens);
       final = rw now (final-tail r ss final);
       held = none-held-right (newestWithdrawn es) (newest-none-held es none);
       apart = rw now (every-withdrawn (isApartFrom ss) r ss es st
@@ -184,8 +184,8 @@ unfolding newestAt
 newest-keep true e es h = refl
 newest-keep false e es h = by-test (isStanding e) (λ t. absurd (apart (h t) refl)) (λ t. rw t)
 
-pub newest-of-kept : (limit : ℕ) (es : List Entry) → every (isRead limit) es ≡ true → isHeldRight es ≡ true → newestAt (those isKept es) ≡ newestAt es
+pub newest-of-kept : (head : Head) (es : List Entry) → every (isRead head) es ≡ true → isHeldRight es ≡ true → newestAt (those isKept es) ≡ newestAt es
 unfolding those
-newest-of-kept limit [] r h = refl
-newest-of-kept limit (e ∷ es) r h =
-    rw (rest-kept limit e es r h) (newest-keep (isKept e) e es (λ t. rw t))
+newest-of-kept head [] r h = refl
+newest-of-kept head (e ∷ es) r h =
+    rw (rest-kept head e es r h) (newest-keep (isKept e) e es (λ t. rw t))

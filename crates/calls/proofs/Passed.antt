@@ -4,13 +4,10 @@ use mathlib.Core.Bool.{Bool, true, false, not, cond, _&&_, _||_}
 use mathlib.Core.List.{List, [], _∷_}
 use Prim.Native.Nat.{ℕ, _≤_}
 use native.Mathlib.Omega.{arith}
-use borrow.Author.Tests.{eqb-false, ltb-false, leb-false, lt-ltb, le-leb, eq-eqb, not-true, not-false}
+use borrow.Author.Tests.{eqb-false, ltb-false, leb-false, lt-ltb, le-leb, eq-eqb, not-false}
 use lib.Dec.{eqb, leb, ltb}
-use lib.ListN.{take, drop}
 use Rattle.arithmetic.specs.Powers.{tenTo}
 use Rattle.terms.specs.declared.entry.Entry.{Entry}
-use Rattle.terms.specs.declared.entry.Slot.{Slot}
-use Rattle.terms.specs.declared.entry.Slot.the-variants.{Read, Empty}
 use Rattle.terms.specs.declared.entry.Recent.{Recent}
 use Rattle.terms.specs.declared.submission.Submission.{Submission}
 use Rattle.terms.specs.Letter.{letterI, letterO, letterF, letterC, letterU, letterR, letterT, letterS, letterX, letterY, letterE, isKnown, isOpening, isFinal, isHoldable, isUnchecked}
@@ -20,18 +17,20 @@ use Rattle.rules.specs.declared.detection.Detected.{Detected}
 use Rattle.rules.specs.declared.detection.Detected.the-variants.{NotRollover, Rollover, Indeterminate}
 use Rattle.rules.specs.Detection.{isNotRollover, detected}
 use Rattle.rules.specs.Indicator.{indicated, indicatedFlag}
-use Rattle.rules.specs.Volume.{hasVolumeCheck, hasThreshold, isBelowThreshold, isAboveThreshold, isLowVolume, isHighVolume}
-use Rattle.journal.specs.Journal.{Journal, journalOf, standing}
-use Rattle.journal.specs.Sound.{any, isBody, isFinalRead, exists, isSound}
-use Rattle.journal.specs.Survey.{isThere, onDay, isAfter, mayStand}
-use Rattle.calls.specs.Checks.{isBadContent, isBadDate, isWithdrawnRead, isBackDated, isUnopened, isATLater, isOpeningIndicated, isFull, indicatedIn, takenFlag, recent, sameDay, submitRules, submitChecks}
+use Rattle.rules.specs.Volume.{isLowVolume, isHighVolume}
+use Rattle.rules.proofs.Queries.{query}
+use Rattle.journal.specs.Journal.{Journal, journalOf, standing, isThere, onDay}
+use Rattle.journal.specs.Numbers.{areaRules}
+use Rattle.journal.specs.Sound.{any, holds, takes, opens, isInRange, isFinalRead, exists, isSound}
+use Rattle.journal.specs.Inner.Follow.{isAfter, mayStand}
+use Rattle.calls.specs.Checks.{isBadContent, isBadDate, isWithdrawnRead, isBackDated, isUnopened, isATLater, isOpeningIndicated, isFull, indicatedIn, takenFlag, recent, sameDay, contentRules, sameDayRules, orderRules, indicatorRules, volumeRules, submitRules, submitChecks}
 use Rattle.calls.specs.Calls.{entryFor}
-use Rattle.calls.proofs.Bools.{both, together, neither, either-of, right-or, apart, by-test}
-use Rattle.calls.proofs.Broken.{unbroken, haveOthers}
+use Rattle.calls.proofs.Bools.{together, neither, right-or, apart, by-test}
+use Rattle.calls.proofs.Broken.{Unbroken, haveOthers, past-group}
 
 -- ---- the rules before those of volume
 pub record Passed (s : Submission) (j : Journal) : Type 0 where
-  pub content : isBadContent (j .dials) s ≡ false
+  pub content : isBadContent (j .head .dials) s ≡ false
   pub date : isBadDate s ≡ false
   pub fresh : isWithdrawnRead s (j .entries) ≡ false
   pub own-day : isThere (sameDay s j) ≡ false
@@ -39,38 +38,49 @@ pub record Passed (s : Submission) (j : Journal) : Type 0 where
   pub opened : isUnopened s (standing (j .entries)) ≡ false
   pub once : isATLater s (standing (j .entries)) ≡ false
   pub plain : isOpeningIndicated s ≡ false
-  pub room : isFull (j .entries) ≡ false
+  pub room : isFull j ≡ false
 
--- how many rules there are before those of volume
-abbrev pub beforeVolume : ℕ
-beforeVolume = 18
+passed : (s : Submission) (j : Journal) → Unbroken (contentRules s j) → Unbroken (sameDayRules s j) → Unbroken (orderRules s j) → Passed s j
+unfolding contentRules sameDayRules orderRules
+passed s j c d o =
+    record {
+      content = c .1 .0;
+      date = c .1 .1 .0;
+      fresh = c .1 .1 .1 .0;
+      own-day = d .1 .1 .1 .0;
+      later = o .0;
+      opened = o .1 .0;
+      once = o .1 .1 .0;
+      plain = o .1 .1 .1 .0;
+      room = o .1 .1 .1 .1 .1 .0;
+    }
 
 -- a number of none of them
+pub record IsOther (number : ℕ) (s : Submission) (a : List ℕ) : Type 0 where
+  pub area : haveOthers number (areaRules a) ≡ true
+  pub content : haveOthers number (contentRules s (journalOf a)) ≡ true
+  pub same-day : haveOthers number (sameDayRules s (journalOf a)) ≡ true
+  pub order : haveOthers number (orderRules s (journalOf a)) ≡ true
+  pub indicator : haveOthers number (indicatorRules s (journalOf a)) ≡ true
+
 pub record Checked (s : Submission) (a : List ℕ) (number : ℕ) : Type 0 where
   pub sound : isSound a ≡ true
   pub passed : Passed s (journalOf a)
-  pub volume : firstBroken (drop beforeVolume (submitChecks s a)) ≡ number
+  pub volume : firstBroken (volumeRules s (journalOf a)) ≡ number
 
-pub checked : (s : Submission) (a : List ℕ) (number : ℕ) → haveOthers number (take beforeVolume (submitChecks s a)) ≡ true → firstBroken (submitChecks s a) ≡ number → Checked s a number
-unfolding submitChecks submitRules recentOf
+pub checked : (s : Submission) (a : List ℕ) (number : ℕ) → IsOther number s a → firstBroken (submitChecks s a) ≡ number → Checked s a number
+unfolding submitChecks submitRules areaRules
 checked s a number o h =
-    let u = unbroken beforeVolume number (submitChecks s a) o h in
-    let u₃ = u .0 .1 .1 .1 in
-    let u₉ = u₃ .1 .1 .1 .1 .1 .1 in
+    let j = journalOf a in
+    let found = past-group number (areaRules a) (submitRules s j) (o .area) h in
+    let content = past-group number (contentRules s j) _ (o .content) (found .1) in
+    let day = past-group number (sameDayRules s j) _ (o .same-day) (content .1) in
+    let order = past-group number (orderRules s j) _ (o .order) (day .1) in
+    let indicator = past-group number (indicatorRules s j) (volumeRules s j) (o .indicator) (order .1) in
     record {
-      sound = not-false _ (u .0 .1 .0);
-      passed = record {
-        content = u₃ .0;
-        date = u₃ .1 .0;
-        fresh = u₃ .1 .1 .0;
-        own-day = u₉ .0;
-        later = u₉ .1 .0;
-        opened = u₉ .1 .1 .0;
-        once = u₉ .1 .1 .1 .0;
-        plain = u₉ .1 .1 .1 .1 .0;
-        room = u₉ .1 .1 .1 .1 .1 .1 .0;
-      };
-      volume = u .1;
+      sound = not-false _ (found .0 .1 .0);
+      passed = passed s j (content .0) (day .0) (order .0);
+      volume = indicator .1;
     }
 
 -- ---- the flag that the read is taken with
@@ -99,17 +109,17 @@ opening-plain true y h = not-false y h
 opening-plain false y h = refl
 
 module _ (s : Submission) (j : Journal) (p : Passed s j) where
-  pub good-body : (kind : ℕ) → isBody (tenTo (j .dials)) (entryFor kind s (takenFlag s j)) ≡ true
-  unfolding isBody entryFor isBadContent isBadDate isOpeningIndicated indicatedIn
+  pub good-body : (kind : ℕ) → isInRange (j .head) (entryFor kind s (takenFlag s j)) ≡ true
+  unfolding isInRange holds takes entryFor isBadContent isBadDate isOpeningIndicated indicatedIn
   good-body kind =
       let c₁ = neither (not (isKnown (s .letter))) _ (p .content) in
       let c₂ = neither (ltb indicatorTrue (s .indicator)) _ (c₁ .1) in
       let c₃ = neither (ltb 1 (s .reread)) _ (c₂ .1) in
       together (ap not (neither (eqb (s .day) 0) _ (p .date) .0))
-      (together (lt-ltb (s .value) (tenTo (j .dials)) (leb-false _ _ (c₃ .1)))
+      (together (lt-ltb (s .value) (tenTo (j .head .dials)) (leb-false _ _ (c₃ .1)))
       (together (not-false (isKnown (s .letter)) (c₁ .0))
       (together (le-leb (s .indicator) indicatorTrue (ltb-false _ _ (c₂ .0)))
-      (together (taken-at-most (detected (j .dials) s (recentOf (standing (j .entries)))) (s .indicator))
+      (together (taken-at-most (detected (j .head .dials) s (recentOf (standing (j .entries)))) (s .indicator))
       (opening-plain (isOpening (s .letter)) (eqb (s .indicator) indicatorNotSet) (p .plain))))))
 
   pub known : isKnown (s .letter) ≡ true
@@ -136,8 +146,8 @@ and-true-false true h = h
 and-true-false false h = refl
 
 module _ (s : Submission) (j : Journal) (p : Passed s j) where
-  pub may-stand : (ss : List Entry) → standing (j .entries) ≡ ss → mayStand (entryFor kindStanding s (takenFlag s j)) (slotAt ss 0) ≡ true
-  unfolding mayStand entryFor slotAt isUnopened isATLater exists
+  pub may-stand : (ss : List Entry) → standing (j .entries) ≡ ss → mayStand (j .head) (entryFor kindStanding s (takenFlag s j)) (slotAt ss 0) ≡ true
+  unfolding mayStand opens entryFor slotAt isUnopened isATLater exists
   may-stand [] st =
       let o : not (isOpening (s .letter)) ≡ false = rw st at (p .opened) in
       together (not-false (isOpening (s .letter)) o) (eq-eqb _ 0 (taken-first s j st))
@@ -162,34 +172,16 @@ known-holdable l k u =
     (rw (u₁ .0, u₂ .0, u₂ .1) at k)
 
 module _ (s : Submission) (n flag : ℕ) where
-  threshold-checked : (y : Bool) → hasThreshold s && y ≡ true → isUnchecked (s .letter) ≡ false
-  unfolding hasThreshold hasVolumeCheck
-  threshold-checked y h = not-true _ (both (not (isUnchecked (s .letter))) _ (both (hasThreshold s) y h .0) .0)
-
-  low-exists : (last second : Slot) → isBelowThreshold n s flag last second ≡ true → isThere last ≡ true
-  unfolding isBelowThreshold isThere
-  low-exists Empty second h = h
-  low-exists (Read r) second h = refl
-
-  high-exists : (last second : Slot) → isAboveThreshold n s flag last second ≡ true → isThere last ≡ true
-  unfolding isAboveThreshold isThere
-  high-exists Empty second h = h
-  high-exists (Read r) second h = refl
-
   -- either query
   abbrev pub IsQuery : Recent → Type 0
   IsQuery recent = isLowVolume n s flag recent || isHighVolume n s flag recent ≡ true
 
   pub query-checked : (recent : Recent) → IsQuery recent → isUnchecked (s .letter) ≡ false
-  unfolding isLowVolume isHighVolume
-  query-checked recent h = either-of (isLowVolume n s flag recent) _ h (threshold-checked _) (threshold-checked _)
+  query-checked recent h = query n s flag recent h .checked
 
   pub query-exists : (recent : Recent) → IsQuery recent → isThere (recent .last) ≡ true
-  unfolding isLowVolume isHighVolume
-  query-exists recent h =
-      either-of (isLowVolume n s flag recent) _ h
-      (λ t. low-exists (recent .last) (recent .second) (both (hasThreshold s) _ t .1))
-      (λ t. high-exists (recent .last) (recent .second) (both (hasThreshold s) _ t .1))
+  unfolding isThere
+  query-exists recent h = rw (query n s flag recent h .stands)
 
 pub is-after : (s : Submission) (e : Entry) (ss : List Entry) → e .day ≡ s .day → isBackDated s (slotAt ss 0) ≡ false → isThere (onDay (s .day) ss) ≡ false → isThere (slotAt ss 0) ≡ true → isAfter e (slotAt ss 0) ≡ true
 unfolding slotAt isThere isAfter

@@ -15,7 +15,7 @@ use Rattle.arithmetic.specs.Advance.{advanceOf}
 use Rattle.arithmetic.proofs.Laws.{in-table}
 use Rattle.terms.specs.declared.entry.Entry.{Entry}
 use Rattle.terms.specs.Entry.{keepIf, those}
-use Rattle.journal.specs.Survey.{isFlagged, firstValue}
+use Rattle.journal.specs.Journal.{isFlagged, firstValue}
 use Rattle.calls.specs.Calls.{flaggedOf, totalOf}
 use Rattle.calls.specs.Ledger.{named, firstValueOf, lastLessFirst}
 use Rattle.calls.specs.DemandThree.{namesOf}

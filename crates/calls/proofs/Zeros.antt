@@ -20,7 +20,7 @@ zero-at [] i h = refl
 zero-at (b ∷ bs) zero h = eqb-true b 0 (both (eqb b 0) (allZero bs) h .0)
 zero-at (b ∷ bs) (suc i) h = zero-at bs i (both (eqb b 0) (allZero bs) h .1)
 
-zero-drop : (m : ℕ) (l : List ℕ) → allZero l ≡ true → allZero (drop m l) ≡ true
+pub zero-drop : (m : ℕ) (l : List ℕ) → allZero l ≡ true → allZero (drop m l) ≡ true
 unfolding allZero
 zero-drop zero l h = h
 zero-drop (suc m) [] h = refl
@@ -41,12 +41,12 @@ zero-before (b ∷ bs) zero z h = together (eq-eqb b 0 z) h
 zero-before (b ∷ bs) (suc n) z h = zero-before bs n z h
 
 module _ (l : List ℕ) where
-  step : (n m : ℕ) → m ≡ suc n → getD l n 0 ≡ 0 → allZero (drop m l) ≡ true → allZero (drop n l) ≡ true
-  step n m e z h = zero-before l n z (rw e at h)
+  one-before : (n m : ℕ) → m ≡ suc n → getD l n 0 ≡ 0 → allZero (drop m l) ≡ true → allZero (drop n l) ≡ true
+  one-before n m e z h = zero-before l n z (rw e at h)
 
   zero-word : (i m : ℕ) → m ≡ i + 2 → wordAt l i ≡ 0 → allZero (drop m l) ≡ true → allZero (drop i l) ≡ true
   unfolding wordAt
-  zero-word i m e z h = step i (i + 1) (omega arith) (omega arith) (step (i + 1) m (omega arith) (omega arith) h)
+  zero-word i m e z h = one-before i (i + 1) (omega arith) (omega arith) (one-before (i + 1) m (omega arith) (omega arith) h)
 
   zero-long : (i m : ℕ) → m ≡ i + 4 → longAt l i ≡ 0 → allZero (drop m l) ≡ true → allZero (drop i l) ≡ true
   unfolding longAt
@@ -56,9 +56,9 @@ module _ (l : List ℕ) where
   pub zero-entry : (i m : ℕ) → m ≡ i + 10 → entryAt l i ≡ zeroEntry → allZero (drop m l) ≡ true → allZero (drop i l) ≡ true
   unfolding entryAt
   zero-entry i m e z h =
-      step i (i + 1) (omega arith) (ap (λ (x : Entry). x .kind) z)
+      one-before i (i + 1) (omega arith) (ap (λ (x : Entry). x .kind) z)
       (zero-word (i + 1) (i + 3) (omega arith) (ap (λ (x : Entry). x .day) z)
       (zero-long (i + 3) (i + 7) (omega arith) (ap (λ (x : Entry). x .value) z)
-      (step (i + 7) (i + 8) (omega arith) (ap (λ (x : Entry). x .letter) z)
-      (step (i + 8) (i + 9) (omega arith) (ap (λ (x : Entry). x .indicator) z)
-      (step (i + 9) m (omega arith) (ap (λ (x : Entry). x .flag) z) h)))))
+      (one-before (i + 7) (i + 8) (omega arith) (ap (λ (x : Entry). x .letter) z)
+      (one-before (i + 8) (i + 9) (omega arith) (ap (λ (x : Entry). x .indicator) z)
+      (one-before (i + 9) m (omega arith) (ap (λ (x : Entry). x .flag) z) h)))))

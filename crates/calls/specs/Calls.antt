@@ -12,17 +12,18 @@ use Rattle.terms.specs.declared.entry.Entry.{Entry}
 use Rattle.terms.specs.declared.entry.Slot.{Slot}
 use Rattle.terms.specs.declared.entry.Slot.the-variants.{Read, Empty}
 use Rattle.terms.specs.declared.submission.Submission.{Submission}
-use Rattle.terms.specs.Answer.{answer, refusal, refusedReport}
+use Rattle.terms.specs.Answer.{answer, acceptance, refusal, refusedReport}
 use Rattle.terms.specs.Entry.{kindStanding, kindWithdrawn, kindHeld, slotAt, those}
 use Rattle.terms.specs.Number.{accepted, misfit, noMeter, low, high}
 use Rattle.terms.specs.Rule.{rule, firstBroken}
 use Rattle.rules.specs.Volume.{advanceOver}
-use Rattle.register.specs.Area.{areaBytes, areas, registerBytes, areaOf, withArea}
-use Rattle.register.specs.Entries.{entryStart, putMeter, putEntry, zeroEntry}
-use Rattle.journal.specs.Journal.{Journal, journalOf, entryCount, standing, kept, heldOf}
-use Rattle.journal.specs.Survey.{isFlagged, isThere, firstValue, newestAt}
+use Rattle.register.specs.declared.head.Head.{Head}
+use Rattle.register.specs.Area.{areaBytes, areasIn, registerBytes, areaOf, withArea}
+use Rattle.register.specs.Entries.{putEntry, zeroEntry}
+use Rattle.register.specs.Head.{putHead, entryOffset}
+use Rattle.journal.specs.Journal.{Journal, journalOf, entryCount, standing, kept, heldOf, isFlagged, isThere, firstValue, newestAt}
 use Rattle.calls.specs.declared.call.Call.{Call}
-use Rattle.calls.specs.declared.call.Call.the-variants.{Enrol, Submit, Withdraw, Ask}
+use Rattle.calls.specs.declared.call.Call.the-variants.{Enrol, Submit, Withdraw, Report as ReportCall}
 use Rattle.calls.specs.declared.call.Reply.{Reply}
 use Rattle.calls.specs.declared.call.Reply.the-variants.{Answered, Reported}
 use Rattle.calls.specs.Checks.{submitChecks, withdrawChecks, enrolChecks, reportChecks, takenFlag}
@@ -40,11 +41,14 @@ abbrev pub refused : ℕ → List ℕ → Acted
 refused number area = acted (Answered (refusal number)) area
 
 -- ---- "Enrol (place, dials, capacity): writes kind 1."
-unfoldable pub enrolIn : ℕ → ℕ → List ℕ → Acted
-enrolIn dials capacity area =
-    cond (eqb (firstBroken (enrolChecks dials capacity area)) accepted)
-    (acted (Answered (answer accepted 0 (pos 0))) (putMeter area dials capacity))
-    (refused (firstBroken (enrolChecks dials capacity area)) area)
+abbrev pub plateOf : ℕ → ℕ → Head
+plateOf dials capacity = record { dials = dials; capacity = capacity }
+
+unfoldable pub enrolIn : Head → List ℕ → Acted
+enrolIn head area =
+    cond (eqb (firstBroken (enrolChecks head area)) accepted)
+    (acted (Answered acceptance) (putHead area head))
+    (refused (firstBroken (enrolChecks head area)) area)
 
 -- ---- "Submit (..): accepted, the read is written as kind 2 after the standing and withdrawn entries, over a held one. With 19 or 20 it is written
 -- there as kind 4 with its flag." It answers "its flag and a".
@@ -62,11 +66,11 @@ entryFor kind s flag =
 -- the area with the read written after the standing and withdrawn entries
 unfoldable pub written : ℕ → Submission → List ℕ → List ℕ
 written kind s area =
-    putEntry area (entryStart (kept (journalOf area .entries))) (entryFor kind s (takenFlag s (journalOf area)))
+    putEntry area (entryOffset area (kept (journalOf area .entries))) (entryFor kind s (takenFlag s (journalOf area)))
 
 -- a: the advance over the last standing read
 unfoldable pub submittedAdvance : Submission → Journal → ℤ
-submittedAdvance s j = advanceOver (j .dials) (s .value) (takenFlag s j) (slotAt (standing (j .entries)) 0)
+submittedAdvance s j = advanceOver (j .head .dials) (s .value) (takenFlag s j) (slotAt (standing (j .entries)) 0)
 
 abbrev pub isVolumeQuery : ℕ → Bool
 isVolumeQuery number = eqb number low || eqb number high
@@ -84,21 +88,20 @@ submitIn s area =
 -- ---- "Withdraw (place, day, value): the last standing entry becomes kind 3 in its place and a held entry is zeroed; it answers that read's
 -- flag and its advance negated."
 
--- the area with the entry after `newest` others withdrawn, and the one after `kept` others zeroed if a read is held
+-- the area with the entry that starts at `newest` withdrawn, and the one that starts at `end` zeroed if a read is held
 unfoldable pub withdrawnBytes : ℕ → ℕ → Bool → List ℕ → List ℕ
-withdrawnBytes newest kept held area =
-    cond held
-    (putEntry (set area (entryStart newest) kindWithdrawn) (entryStart kept) zeroEntry)
-    (set area (entryStart newest) kindWithdrawn)
+withdrawnBytes newest end held area =
+    cond held (putEntry (set area newest kindWithdrawn) end zeroEntry) (set area newest kindWithdrawn)
 
-abbrev pub withdrawnIn : List Entry → List ℕ → List ℕ
-withdrawnIn es area = withdrawnBytes (newestAt es) (kept es) (isThere (heldOf es)) area
+abbrev pub withdrawnArea : List Entry → List ℕ → List ℕ
+withdrawnArea es area =
+    withdrawnBytes (entryOffset area (newestAt es)) (entryOffset area (kept es)) (isThere (heldOf es)) area
 
 -- flag and negated advance of the last standing read over the one before
 unfoldable pub withdrawnAnswer : ℕ → Slot → Slot → Answer
 withdrawnAnswer n (Read r0) second =
     answer accepted (r0 .flag) (negℤ (advanceOver n (r0 .value) (r0 .flag) second))
-withdrawnAnswer n Empty second = refusal accepted
+withdrawnAnswer n Empty second = acceptance
 
 unfoldable pub withdrawIn : ℕ → ℕ → List ℕ → Acted
 withdrawIn day value area =
@@ -106,10 +109,10 @@ withdrawIn day value area =
     (acted
     (Answered
     (withdrawnAnswer
-    (journalOf area .dials)
+    (journalOf area .head .dials)
     (slotAt (standing (journalOf area .entries)) 0)
     (slotAt (standing (journalOf area .entries)) 1)))
-    (withdrawnIn (journalOf area .entries) area))
+    (withdrawnArea (journalOf area .entries) area))
     (refused (firstBroken (withdrawChecks day value area)) area)
 
 -- ---- "Report (place) answers number, standing reads, flagged among them, and total: last − first + 10^n × flagged, 0 if none stands."
@@ -126,7 +129,7 @@ reportOf j =
       number = accepted;
       standing = length (standing (j .entries));
       flagged = flaggedOf (standing (j .entries));
-      total = totalOf (j .dials) (standing (j .entries));
+      total = totalOf (j .head .dials) (standing (j .entries));
     }
 
 unfoldable pub reportIn : List ℕ → Acted
@@ -137,23 +140,23 @@ reportIn area =
 
 -- ---- a call on the area that it names
 unfoldable pub act : Call → List ℕ → Acted
-act (Enrol place dials capacity) area = enrolIn dials capacity area
+act (Enrol place dials capacity) area = enrolIn (plateOf dials capacity) area
 act (Submit place read) area = submitIn read area
 act (Withdraw place day value) area = withdrawIn day value area
-act (Ask place) area = reportIn area
+act (ReportCall place) area = reportIn area
 
 unfoldable pub placeOf : Call → ℕ
 placeOf (Enrol place dials capacity) = place
 placeOf (Submit place read) = place
 placeOf (Withdraw place day value) = place
-placeOf (Ask place) = place
+placeOf (ReportCall place) = place
 
 -- a refusal, in the form of the call's answer
 unfoldable pub refusalOf : Call → ℕ → Reply
 refusalOf (Enrol place dials capacity) number = Answered (refusal number)
 refusalOf (Submit place read) number = Answered (refusal number)
 refusalOf (Withdraw place day value) number = Answered (refusal number)
-refusalOf (Ask place) number = Reported (refusedReport number)
+refusalOf (ReportCall place) number = Reported (refusedReport number)
 
 -- ---- a call on the register: what it answers, and the register after it
 pub record Done : Type 0 where
@@ -168,13 +171,13 @@ unfoldable pub isMisfit : List ℕ → Bool
 isMisfit register = not (eqb (length register) registerBytes)
 
 -- 3: "place above 63"
-unfoldable pub isNoPlace : ℕ → Bool
-isNoPlace place = leb areas place
+unfoldable pub isNoPlace : ℕ → List ℕ → Bool
+isNoPlace place register = leb (areasIn register) place
 
 -- what every call checks first
 unfoldable pub placeNumber : ℕ → List ℕ → ℕ
 placeNumber place register =
-    firstBroken (rule misfit (isMisfit register) ∷ rule noMeter (isNoPlace place) ∷ [])
+    firstBroken (rule misfit (isMisfit register) ∷ rule noMeter (isNoPlace place register) ∷ [])
 
 unfoldable pub onArea : ℕ → Acted → List ℕ → Done
 onArea place after register = done (after .reply) (withArea place (after .area) register)
@@ -187,13 +190,12 @@ step call register =
 
 -- ---- "Journal (place): hands back the meter's part of the caller's own register, from its start to its last entry's end; length 0 where report
 -- refuses."
+unfoldable pub lengthIn : List ℕ → ℕ
+lengthIn area = cond (eqb (firstBroken (reportChecks area)) accepted) (entryOffset area (entryCount area)) 0
+
 unfoldable pub journalLength : ℕ → List ℕ → ℕ
 journalLength place register =
-    cond (eqb (placeNumber place register) accepted)
-    (cond (eqb (firstBroken (reportChecks (areaOf place register))) accepted)
-    (entryStart (entryCount (areaOf place register)))
-    0)
-    0
+    cond (eqb (placeNumber place register) accepted) (lengthIn (areaOf place register)) 0
 
 unfoldable pub journalPart : ℕ → List ℕ → List ℕ
 journalPart place register = take (journalLength place register) (drop (areaBytes * place) register)

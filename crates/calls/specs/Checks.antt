@@ -1,6 +1,6 @@
 -- 01, Calls: the conditions of the table of numbers, and the order of checks of each call.
 use mathlib.Core.Bool.{Bool, true, false, not, _&&_, _||_}
-use mathlib.Core.List.{List, [], _∷_}
+use mathlib.Core.List.{List, [], _∷_, _++_}
 use Prim.Native.Nat.{ℕ}
 use lib.Dec.{eqb, leb, ltb}
 use Rattle.arithmetic.specs.Powers.{tenTo}
@@ -11,15 +11,17 @@ use Rattle.terms.specs.declared.entry.Recent.{Recent}
 use Rattle.terms.specs.declared.submission.Submission.{Submission}
 use Rattle.terms.specs.Letter.{letterI, isKnown, isOpening, isFinal}
 use Rattle.terms.specs.Entry.{indicatorNotSet, indicatorTrue, slotAt, recentOf}
-use Rattle.terms.specs.Number.{repeat, noMeter, damaged, missing, content, date, withdrawnRead, readAT, readEH, readBF, backDated, readDF, indicatorOnOpening, noOriginal, full, readEE, readEF, low, high, overCapacity, notStanding, notLast, enrolled, plate}
+use Rattle.terms.specs.Number.{repeat, missing, content, date, withdrawnRead, readAT, readEH, readBF, backDated, readDF, indicatorOnOpening, noOriginal, full, readEE, readEF, low, high, overCapacity, notStanding, notLast, enrolled, plate}
 use Rattle.terms.specs.Rule.{Rule, rule}
 use Rattle.rules.specs.declared.indicator.Indicated.{Indicated}
 use Rattle.rules.specs.Detection.{detected}
 use Rattle.rules.specs.Indicator.{indicated, indicatedNumber, indicatedFlag}
 use Rattle.rules.specs.Volume.{isLowVolume, isHighVolume, isOverCapacity}
-use Rattle.journal.specs.Journal.{Journal, journalOf, allZero, maxEntries, standing, withdrawn, kept, heldOf}
+use Rattle.register.specs.declared.head.Head.{Head}
+use Rattle.register.specs.Head.{mostEntries}
+use Rattle.journal.specs.Journal.{Journal, journalOf, allZero, standing, withdrawn, kept, heldOf, isThere, onDay}
+use Rattle.journal.specs.Numbers.{areaRules}
 use Rattle.journal.specs.Sound.{any, exists, hasRead, isFinalRead, isPlate, isSound}
-use Rattle.journal.specs.Survey.{isThere, onDay}
 
 -- ---- 5 to 8: what is submitted
 -- "value 4,294,967,295, the mark for unpopulated"
@@ -87,8 +89,8 @@ unfoldable pub isUnheldReread : Submission → Slot → Bool
 isUnheldReread s held = eqb (s .reread) 1 && not (isHeldEqual s held)
 
 -- "standing and withdrawn entries number 50"
-unfoldable pub isFull : List Entry → Bool
-isFull es = eqb (kept es) maxEntries
+unfoldable pub isFull : Journal → Bool
+isFull j = eqb (kept (j .entries)) (mostEntries (j .head))
 
 -- ---- 17 to 21, "under Detection" and "under Volume"
 unfoldable pub isDenied : Indicated → Bool
@@ -99,7 +101,7 @@ isUnclear found = eqb (indicatedNumber found) readEF
 
 -- what detection and the indicator make of a submission
 unfoldable pub indicatedIn : Submission → Journal → Indicated
-indicatedIn s j = indicated (detected (j .dials) s (recentOf (standing (j .entries)))) (s .indicator)
+indicatedIn s j = indicated (detected (j .head .dials) s (recentOf (standing (j .entries)))) (s .indicator)
 
 -- ---- 22, 23: withdrawal
 -- "no standing read of that day and value"
@@ -113,12 +115,13 @@ isNotLast day value Empty = true
 
 -- ---- THE ORDER OF CHECKS. Every call checks 2 first, and then 3 for a place above 63.
 
--- "area all zero", "area neither zero nor sound", and then what a call asks of the journal
+-- 3 and 4 are of the area alone
+-- and then what a call asks of the journal
 abbrev pub withJournal : (Journal → List Rule) → List ℕ → List Rule
-withJournal rules area = rule noMeter (allZero area) ∷ rule damaged (not (isSound area)) ∷ rules (journalOf area)
+withJournal rules area = areaRules area ++ rules (journalOf area)
 
 -- "Submit checks 2 to 8; then, if a read of that day stands, 1, 9 (submitted type I or F), 10, 11; then 12, 13, 9 (I or O with a read standing,
--- F with an F standing), 14 to 21."
+-- F with an F standing), 14 to 21." Each group by itself, and then the list.
 module _ (s : Submission) (j : Journal) where
   abbrev pub sameDay : Slot
   sameDay = onDay (s .day) (standing (j .entries))
@@ -130,34 +133,55 @@ module _ (s : Submission) (j : Journal) where
   abbrev pub takenFlag : ℕ
   takenFlag = indicatedFlag (indicatedIn s j)
 
-  unfoldable pub submitRules : List Rule
-  submitRules =
+  -- 5 to 8
+  unfoldable pub contentRules : List Rule
+  contentRules =
       rule missing (isMissing s)
-      ∷ rule content (isBadContent (j .dials) s)
+      ∷ rule content (isBadContent (j .head .dials) s)
       ∷ rule date (isBadDate s)
       ∷ rule withdrawnRead (isWithdrawnRead s (j .entries))
-      ∷ rule repeat (isRepeat s sameDay)
+      ∷ []
+
+  -- 1, 9, 10, 11
+  unfoldable pub sameDayRules : List Rule
+  sameDayRules =
+      rule repeat (isRepeat s sameDay)
       ∷ rule readAT (isATOnDay s sameDay)
       ∷ rule readEH (isOtherIndicator s sameDay)
       ∷ rule readBF (isThere sameDay)
-      ∷ rule backDated (isBackDated s (recent .last))
+      ∷ []
+
+  -- 12, 13, 9, 14 to 16
+  unfoldable pub orderRules : List Rule
+  orderRules =
+      rule backDated (isBackDated s (slotAt (standing (j .entries)) 0))
       ∷ rule readDF (isUnopened s (standing (j .entries)))
       ∷ rule readAT (isATLater s (standing (j .entries)))
       ∷ rule indicatorOnOpening (isOpeningIndicated s)
       ∷ rule noOriginal (isUnheldReread s (heldOf (j .entries)))
-      ∷ rule full (isFull (j .entries))
-      ∷ rule readEE (isDenied (indicatedIn s j))
-      ∷ rule readEF (isUnclear (indicatedIn s j))
-      ∷ rule low (isLowVolume (j .dials) s takenFlag recent)
-      ∷ rule high (isHighVolume (j .dials) s takenFlag recent)
-      ∷ rule overCapacity (isOverCapacity (j .dials) (j .capacity) s takenFlag recent)
+      ∷ rule full (isFull j)
       ∷ []
+
+  -- 17 and 18
+  unfoldable pub indicatorRules : List Rule
+  indicatorRules = rule readEE (isDenied (indicatedIn s j)) ∷ rule readEF (isUnclear (indicatedIn s j)) ∷ []
+
+  -- 19 to 21
+  unfoldable pub volumeRules : List Rule
+  volumeRules =
+      rule low (isLowVolume (j .head .dials) s takenFlag recent)
+      ∷ rule high (isHighVolume (j .head .dials) s takenFlag recent)
+      ∷ rule overCapacity (isOverCapacity (j .head .dials) (j .head .capacity) s takenFlag recent)
+      ∷ []
+
+  unfoldable pub submitRules : List Rule
+  submitRules = contentRules ++ (sameDayRules ++ (orderRules ++ (indicatorRules ++ volumeRules)))
 
 unfoldable pub submitChecks : Submission → List ℕ → List Rule
 submitChecks s area = withJournal (submitRules s) area
 
 -- "Withdraw: 2, 3, 4, 22, 23."
-abbrev pub withdrawRules : ℕ → ℕ → Journal → List Rule
+unfoldable pub withdrawRules : ℕ → ℕ → Journal → List Rule
 withdrawRules day value j =
     rule notStanding (isNotStanding day value (standing (j .entries)))
     ∷ rule notLast (isNotLast day value (slotAt (standing (j .entries)) 0))
@@ -167,9 +191,8 @@ unfoldable pub withdrawChecks : ℕ → ℕ → List ℕ → List Rule
 withdrawChecks day value area = withJournal (withdrawRules day value) area
 
 -- "Enrol: 2, 3, 24, 25."
-unfoldable pub enrolChecks : ℕ → ℕ → List ℕ → List Rule
-enrolChecks dials capacity area =
-    rule enrolled (not (allZero area)) ∷ rule plate (not (isPlate dials capacity)) ∷ []
+unfoldable pub enrolChecks : Head → List ℕ → List Rule
+enrolChecks head area = rule enrolled (not (allZero area)) ∷ rule plate (not (isPlate head)) ∷ []
 
 -- "Report: 2, 3, 4."
 unfoldable pub reportChecks : List ℕ → List Rule

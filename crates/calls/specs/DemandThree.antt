@@ -1,16 +1,16 @@
 -- 00, demand 3, as 01, The two runs of demand 3, words it: ONE CLAIM about a whole list.
 use mathlib.Core.Path.{_≡_}
-use mathlib.Core.Bool.{true}
+use mathlib.Core.Bool.{true, false}
 use mathlib.Core.List.{List, [], _∷_}
 use Prim.Native.Nat.{ℕ, _<_, _^_}
 use lib.IntN.{ℤ, pos, _+ℤ_, _*ℤ_}
 use Rattle.terms.specs.declared.entry.Entry.{Entry}
-use Rattle.register.specs.Area.{areas, areaOf}
+use Rattle.register.specs.Area.{areasIn, areaOf}
 use Rattle.journal.specs.Journal.{journalOf, standing}
 use Rattle.calls.specs.declared.call.Call.{Call}
 use Rattle.calls.specs.Kept.{isGood}
 use Rattle.calls.specs.Play.{Exchange, exchanges, registerAfter, zeroRegister, picked, callsOf}
-use Rattle.calls.specs.Ledger.{Named, named, ledgerOf, lastLessFirst, areNoneOf}
+use Rattle.calls.specs.Ledger.{Named, named, ledgerOf, hasAccepted, hasEnrolment, lastLessFirst, areNoneOf}
 
 -- the days and values of a journal's kind 2 entries
 unfoldable pub namesOf : List Entry → List Named
@@ -27,7 +27,7 @@ pub record RunHolds (meter : ℕ) (xs : List Exchange) (register : List ℕ) : T
   -- "after each run the meter's kind 2 entries hold just these days and values, in this order"
   pub stand : namesOf (standing (journalOf (areaOf meter register) .entries)) ≡ ledgerOf meter xs .standing
   -- "n is from the meter's accepted enrolment; without one nothing is accepted there and both sides of the sum are 0."
-  pub unenrolled : ledgerOf meter xs .dials ≡ 0 → (ledgerOf meter xs .standing ≡ []) × (ledgerOf meter xs .advances ≡ pos 0) × (ledgerOf meter xs .flags ≡ pos 0)
+  pub unenrolled : hasEnrolment meter xs ≡ false → (hasAccepted meter xs ≡ false) × (ledgerOf meter xs .standing ≡ []) × (ledgerOf meter xs .advances ≡ pos 0) × (ledgerOf meter xs .flags ≡ pos 0)
   -- the area that holds them is all zero or sound
   pub good : isGood (areaOf meter register) ≡ true
 
@@ -53,4 +53,4 @@ pub record RunsHold (meter : ℕ) (calls : List Call) : Type 0 where
 
 -- DEMAND 3: "This holds for every list of enrolments, submissions, withdrawals and reports, refused ones included, and for every meter."
 unfoldable pub DemandThree : Type 0
-DemandThree = (meter : ℕ) → meter < areas → (calls : List Call) → RunsHold meter calls
+DemandThree = (meter : ℕ) → meter < areasIn zeroRegister → (calls : List Call) → RunsHold meter calls

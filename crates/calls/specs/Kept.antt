@@ -4,7 +4,7 @@ use mathlib.Core.Bool.{Bool, true, _||_}
 use mathlib.Core.List.{List}
 use Prim.Native.Nat.{ℕ, _<_}
 use lib.ListN.{length}
-use Rattle.register.specs.Area.{areaBytes, areas, registerBytes, areaOf}
+use Rattle.register.specs.Area.{areaBytes, areasIn, registerBytes, areaOf}
 use Rattle.journal.specs.Journal.{allZero}
 use Rattle.journal.specs.Sound.{isSound}
 use Rattle.calls.specs.declared.call.Call.{Call}
@@ -21,7 +21,7 @@ pub record GoodArea (a : List ℕ) : Type 0 where
 -- a register of such areas
 pub record GoodRegister (register : List ℕ) : Type 0 where
   pub size : length register ≡ registerBytes
-  pub good : (place : ℕ) → place < areas → isGood (areaOf place register) ≡ true
+  pub good : (place : ℕ) → place < areasIn register → isGood (areaOf place register) ≡ true
 
 -- THE CLAIM: no call damages an area, so that 4 means damage from outside
 unfoldable pub CallsKeepAreas : Type 0

@@ -7,7 +7,7 @@ use lib.IntN.{ℤ, pos, _+ℤ_, _-ℤ_}
 use Rattle.terms.specs.declared.answer.Answer.{Answer}
 use Rattle.terms.specs.Number.{accepted}
 use Rattle.calls.specs.declared.call.Call.{Call}
-use Rattle.calls.specs.declared.call.Call.the-variants.{Enrol, Submit, Withdraw, Ask}
+use Rattle.calls.specs.declared.call.Call.the-variants.{Enrol, Submit, Withdraw, Report as ReportCall}
 use Rattle.calls.specs.declared.call.Reply.{Reply}
 use Rattle.calls.specs.declared.call.Reply.the-variants.{Answered, Reported}
 use Rattle.calls.specs.Play.{Exchange, numberOf, names}
@@ -77,7 +77,7 @@ entered (Withdraw place day value) (Answered a) l =
       withdrawn = named day value ∷ l .withdrawn;
     }
 entered (Withdraw place day value) (Reported r) l = l
-entered (Ask place) reply l = l
+entered (ReportCall place) reply l = l
 
 -- "Accepted means answered 0", here at this meter
 unfoldable pub isAccepted : ℕ → Exchange → Bool
@@ -90,6 +90,22 @@ ledgerAfter meter (x ∷ xs) l = ledgerAfter meter xs (cond (isAccepted meter x)
 
 unfoldable pub ledgerOf : ℕ → List Exchange → Ledger
 ledgerOf meter xs = ledgerAfter meter xs emptyLedger
+
+-- a call that was accepted at this meter is among the exchanges
+unfoldable pub hasAccepted : ℕ → List Exchange → Bool
+hasAccepted meter [] = false
+hasAccepted meter (x ∷ xs) = isAccepted meter x || hasAccepted meter xs
+
+-- "the meter's accepted enrolment" is among them
+unfoldable pub isEnrolment : Call → Bool
+isEnrolment (Enrol place dials capacity) = true
+isEnrolment (Submit place read) = false
+isEnrolment (Withdraw place day value) = false
+isEnrolment (ReportCall place) = false
+
+unfoldable pub hasEnrolment : ℕ → List Exchange → Bool
+hasEnrolment meter [] = false
+hasEnrolment meter (x ∷ xs) = isAccepted meter x && isEnrolment (x .call) || hasEnrolment meter xs
 
 -- "First and last are the two ends; of one read they are the same."
 unfoldable pub firstValueOf : Named → List Named → ℕ

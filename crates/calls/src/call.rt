@@ -18,7 +18,7 @@ pub enum Call {
         day: u16,
         value: u32,
     },
-    Ask {
+    Report {
         place: u16,
     },
 }

@@ -1,5 +1,7 @@
 // What holds of the calls' definitions, as promises of functions that do nothing. The contracts of the calls cite the same definitions.
+ghost use Rattle.calls.specs.DemandOne.{DemandOne};
 ghost use Rattle.calls.specs.DemandThree.{DemandThree};
+ghost use Rattle.calls.specs.Examples.{ExamplesHold};
 ghost use Rattle.calls.specs.Kept.{CallsKeepAreas};
 
 // No call damages an area: a register whose areas are all zero or sound stays so.
@@ -7,7 +9,17 @@ pub fn calls_keep_areas()
     ensures { λ _. ⌜ CallsKeepAreas ⌝ }
 {}
 
+// Demand 1: what a call writes and what a refusal answers, on every register.
+pub fn demand_one()
+    ensures { λ _. ⌜ DemandOne ⌝ }
+{}
+
 // Demand 3, for every list of calls and every meter.
 pub fn demand_three()
     ensures { λ _. ⌜ DemandThree ⌝ }
+{}
+
+// Examples of what the definitions of demand 3 mean.
+pub fn examples_hold()
+    ensures { λ _. ⌜ ExamplesHold ⌝ }
 {}

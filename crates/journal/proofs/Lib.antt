@@ -8,3 +8,4 @@ pub mod Runs
 pub mod Passes
 pub mod Newest
 pub mod Verdicts
+pub mod Numbers

@@ -1,3 +1,4 @@
 pub mod Journal
 pub mod Sound
+pub mod Numbers
 pub mod Inner

@@ -11,7 +11,7 @@ ghost use Rattle.journal.specs.Journal.{journalOf, entriesTo, standing, 
 ghost use Rattle.journal.specs.Sound.{areSound, isSound};
 ghost use Rattle.journal.specs.Inner.Back.{EndsStanding};
 ghost use Rattle.journal.specs.Inner.Judged.{tallyOf};
-ghost use Rattle.journal.specs.Inner.Survey.{foundOf, surveyOf, surveyed};
+ghost use Rattle.journal.specs.Inner.Survey.{foundOf, surveyOf, Surveys};
 use crate::judge::Counts;
 use crate::judge::Judged;
 use crate::judge::Tally;
@@ -171,7 +171,7 @@ fn survey_sound(area: &[u8], t: Tally, day: u16, value: u32) -> Survey
 
 // All zero, damaged, or sound with what the calls need: for any bytes whatever.
 pub fn survey_area(area: &[u8], day: u16, value: u32) -> Surveyed
-    ensures { λ r. ⌜ r ≡ surveyed day value (now (area .entry)) ⌝ }
+    ensures { λ r. ⌜ Surveys day value (now (area .entry)) r ⌝ }
 {
     match judge_area(area) {
         Judged::Zero => Surveyed::Zero,

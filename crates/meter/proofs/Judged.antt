@@ -1,5 +1,5 @@
 -- What the survey of an area of 512 bytes says of the first checks of a call.
-use mathlib.Core.Path.{_≡_, refl}
+use mathlib.Core.Path.{_≡_, refl, _∙_}
 use mathlib.Core.Bool.{Bool, true, false, not, cond}
 use mathlib.Core.List.{List}
 use Prim.Native.Nat.{ℕ}
@@ -11,8 +11,9 @@ use Rattle.journal.specs.declared.survey.Survey.{Survey}
 use Rattle.journal.specs.declared.survey.Surveyed.{Surveyed}
 use Rattle.journal.specs.declared.survey.Surveyed.the-variants.{Zero, Damaged, Sound}
 use Rattle.journal.specs.Journal.{Journal, journalOf, allZero}
+use Rattle.journal.specs.Numbers.{areaRules}
 use Rattle.journal.specs.Sound.{isSound}
-use Rattle.journal.specs.Survey.{surveyOf, surveyed}
+use Rattle.journal.specs.Inner.Survey.{surveyOf, surveyed}
 use Rattle.calls.specs.Checks.{withJournal}
 
 -- by the two tests
@@ -45,15 +46,21 @@ module _ (rules : Journal → List Rule) (day value : ℕ) (area : List ℕ) (si
   abbrev journalNumber : ℕ
   journalNumber = firstBroken (rules (journalOf area))
 
+  area-first : firstNumber ≡ number (surveyOf day value (journalOf area)) journalNumber (allZero area) (isSound area)
+  unfolding areaRules
+  area-first = refl
+
   judged : surveyed day value area ≡ verdict (surveyOf day value (journalOf area)) journalNumber (allZero area) (isSound area)
   unfolding surveyed
   judged = rw size
 
   pub zero-number : surveyed day value area ≡ Zero → firstNumber ≡ noMeter
-  zero-number e = if-zero (surveyOf day value (journalOf area)) journalNumber (allZero area) (isSound area) (rw judged at e)
+  zero-number e = area-first ∙ if-zero (surveyOf day value (journalOf area)) journalNumber (allZero area) (isSound area) (rw judged at e)
 
   pub damaged-number : surveyed day value area ≡ Damaged → firstNumber ≡ damaged
-  damaged-number e = if-damaged (surveyOf day value (journalOf area)) journalNumber (allZero area) (isSound area) (rw judged at e)
+  damaged-number e = area-first ∙ if-damaged (surveyOf day value (journalOf area)) journalNumber (allZero area) (isSound area) (rw judged at e)
 
   pub sound-number : {v : Survey} → surveyed day value area ≡ Sound v → (v ≡ surveyOf day value (journalOf area)) × (firstNumber ≡ journalNumber)
-  sound-number e = if-sound (surveyOf day value (journalOf area)) journalNumber (allZero area) (isSound area) (rw judged at e)
+  sound-number e =
+      let s = if-sound (surveyOf day value (journalOf area)) journalNumber (allZero area) (isSound area) (rw judged at e) in
+      (s .0, area-first ∙ s .1)

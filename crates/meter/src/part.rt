@@ -1,30 +1,47 @@
 // Journal: the meter's part of the caller's own register.
 ghost use mathlib.Core.Path.{_≡_};
-ghost use Rattle.calls.specs.Calls.{journalLength, journalPart};
-use crate::place::check_place;
+ghost use lib.ListN.{length};
+ghost use Rattle.register.specs.Area.{areaBytes};
+ghost use Rattle.calls.specs.Calls.{lengthIn, journalLength};
+ghost use Rattle.meter.specs.Part.{Part};
 use journal::survey::Surveyed;
 use journal::survey::survey_area;
+use place::Located;
+use place::locate;
 use register::area::Layout;
-use terms::number::Number;
+use register::head::offset_after;
+
+// How long an area's journal is, and 0 where there is none.
+fn length_in(area: &[u8]) -> usize
+    requires { ⌜ length (now area) ≡ areaBytes ⌝ }
+    ensures { λ r. ⌜ r ≡ lengthIn (now (area .entry)) ⌝ }
+{
+    match survey_area(area, 0, 0) {
+        Surveyed::Zero => 0,
+        Surveyed::Damaged => 0,
+        Surveyed::Sound(v) => {
+            let head = v.head;
+            offset_after(head, v.entries) as usize
+        }
+    }
+}
 
 // How long the part is: from the area's start to the last entry's end, and 0 where report refuses.
 pub fn journal_length(register: &[u8], place: u16) -> usize
     ensures { λ r. ⌜ r ≡ journalLength place (now (register .entry)) ⌝ }
 {
-    if check_place(register, place) != Number::ACCEPTED {
-        return 0;
-    }
-    let from = Layout::AREA_BYTES * (place as usize);
-    let to = from + Layout::AREA_BYTES;
-    match survey_area(&register[from..to], 0, 0) {
-        Surveyed::Zero => 0,
-        Surveyed::Damaged => 0,
-        Surveyed::Sound(v) => Layout::METER_BYTES + Layout::ENTRY_BYTES * (v.entries as usize),
+    match locate(register, place) {
+        Located::Refused(_) => 0,
+        Located::At(start) => {
+            let end = start + Layout::AREA_BYTES;
+            length_in(&register[start..end])
+        }
     }
 }
 
+// The meter's own part: its bytes lie in the register that was lent, from 512 × place on.
 pub fn journal(register: &[u8], place: u16) -> &[u8]
-    ensures { λ r. ⌜ now r ≡ journalPart place (now (register .entry)) ⌝ }
+    ensures { λ r. ⌜ Part place (now (register .entry)) (register .entry .ptr) (now r) (r .ptr) ⌝ }
 {
     let size = journal_length(register, place);
     if size == 0 {

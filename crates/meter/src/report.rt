@@ -4,15 +4,16 @@ ghost use Prim.Native.Nat.{ℕ};
 ghost use lib.ListN.{length};
 ghost use Rattle.register.specs.Area.{areaBytes};
 ghost use Rattle.journal.specs.Journal.{Journal, standing};
-ghost use Rattle.journal.specs.Survey.{surveyOf};
+ghost use Rattle.journal.specs.Inner.Survey.{surveyOf};
 ghost use Rattle.calls.specs.Calls.{totalOf, reportIn, acted, done, step};
-use crate::place::check_place;
 use arithmetic::advance::advance;
 use calls::call::Call;
 use calls::call::Reply;
 use journal::survey::Survey;
 use journal::survey::Surveyed;
 use journal::survey::survey_area;
+use place::Located;
+use place::locate;
 use register::area::Layout;
 use terms::answer::Report;
 use terms::answer::refuse_report;
@@ -21,13 +22,14 @@ use terms::number::Number;
 
 // last − first + 10^n × flagged, 0 if none stands.
 fn total(v: Survey) -> i64
-    ensures { λ r. ⌜ ((day value : ℕ) (j : Journal) → v ≡ surveyOf day value j → r ≡ totalOf (j .dials) (standing (j .entries))) ⌝ }
+    ensures { λ r. ⌜ ((day value : ℕ) (j : Journal) → v ≡ surveyOf day value j → r ≡ totalOf (j .head .dials) (standing (j .entries))) ⌝ }
 {
+    let head = v.head;
     let recent = v.recent;
     let counts = v.counts;
     let last = recent.last;
     match last {
-        Slot::Read(r0) => advance(v.dials, r0.value, counts.flagged, counts.first),
+        Slot::Read(r0) => advance(head.dials, r0.value, counts.flagged, counts.first),
         Slot::Empty => 0,
     }
 }
@@ -52,13 +54,13 @@ fn report_area(area: &[u8]) -> Report
 }
 
 pub fn report(register: &[u8], place: u16) -> Report
-    ensures { λ r. ⌜ done (Reply.Reported r) (now (register .entry)) ≡ step (Call.Ask place) (now (register .entry)) ⌝ }
+    ensures { λ r. ⌜ done (Reply.Reported r) (now (register .entry)) ≡ step (Call.Report place) (now (register .entry)) ⌝ }
 {
-    let unplaced = check_place(register, place);
-    if unplaced != Number::ACCEPTED {
-        return refuse_report(unplaced);
+    match locate(register, place) {
+        Located::Refused(number) => refuse_report(number),
+        Located::At(start) => {
+            let end = start + Layout::AREA_BYTES;
+            report_area(&register[start..end])
+        }
     }
-    let from = Layout::AREA_BYTES * (place as usize);
-    let to = from + Layout::AREA_BYTES;
-    report_area(&register[from..to])
 }

@@ -6,11 +6,10 @@ ghost use Rattle.terms.specs.Rule.{firstBroken};
 ghost use Rattle.rules.specs.Volume.{advanceOver};
 ghost use Rattle.register.specs.Area.{areaBytes};
 ghost use Rattle.journal.specs.Journal.{Journal};
-ghost use Rattle.journal.specs.Survey.{surveyOf};
+ghost use Rattle.journal.specs.Inner.Survey.{surveyOf};
 ghost use Rattle.calls.specs.Checks.{isNotLast, withdrawRules};
-ghost use Rattle.calls.specs.Calls.{withdrawnAnswer, withdrawnBytes, done, step};
-ghost use Rattle.meter.specs.Withdrawal.{withdrawDecided};
-use crate::place::check_place;
+ghost use Rattle.calls.specs.Calls.{acted, withdrawnAnswer, withdrawnBytes, withdrawIn, done, step};
+ghost use Rattle.meter.specs.Withdrawal.{Decides};
 use arithmetic::advance::advance;
 use calls::call::Call;
 use calls::call::Reply;
@@ -18,10 +17,14 @@ use journal::slot::is_there;
 use journal::survey::Survey;
 use journal::survey::Surveyed;
 use journal::survey::survey_area;
+use place::Located;
+use place::locate;
 use register::area::Layout;
+use register::head::offset_after;
+use register::write::put_byte;
 use register::write::put_entry;
-use register::write::put_kind;
 use terms::answer::Answer;
+use terms::answer::accept;
 use terms::answer::refuse;
 use terms::entry::Entry;
 use terms::entry::Kind;
@@ -62,7 +65,7 @@ fn check_withdrawal(v: Survey, day: u16, value: u32) -> u8
 // 3, 4, 22, 23, or the journal to change.
 fn decide_withdrawal(area: &[u8], day: u16, value: u32) -> Decided
     requires { ⌜ length (now area) ≡ areaBytes ⌝ }
-    ensures { λ r. ⌜ r ≡ withdrawDecided day value (now (area .entry)) ⌝ }
+    ensures { λ r. ⌜ Decides day value (now (area .entry)) r ⌝ }
 {
     match survey_area(area, day, value) {
         Surveyed::Zero => Decided::Refused(Number::NO_METER),
@@ -97,19 +100,19 @@ fn withdrawn_answer(n: u8, last: Slot, second: Slot) -> Answer
             flag: r0.flag,
             advance: take_back(n, r0, second),
         },
-        Slot::Empty => refuse(Number::ACCEPTED),
+        Slot::Empty => accept(),
     }
 }
 
-// The entry after `newest` others is marked; a held one, after `kept` others, is zeroed.
-fn mark_withdrawn(area: &mut [u8], newest: u8, kept: u8, held: bool)
-    ensures { λ _. ⌜ now (area .exit) ≡ withdrawnBytes newest kept held (now (area .entry)) ⌝ }
+// The entry at byte `newest` is marked; a held one, at byte `end`, is zeroed.
+fn mark_withdrawn(area: &mut [u8], newest: u16, end: u16, held: bool)
+    ensures { λ _. ⌜ now (area .exit) ≡ withdrawnBytes newest end held (now (area .entry)) ⌝ }
 {
-    put_kind(area, newest, Kind::WITHDRAWN);
+    put_byte(area, newest as usize, Kind::WITHDRAWN);
     if held {
         put_entry(
             area,
-            kept,
+            end,
             Entry {
                 kind: 0,
                 day: 0,
@@ -122,31 +125,36 @@ fn mark_withdrawn(area: &mut [u8], newest: u8, kept: u8, held: bool)
     }
 }
 
-pub fn withdraw(register: &mut [u8], place: u16, day: u16, value: u32) -> Answer
-    ensures { λ r. ⌜ done (Reply.Answered r) (now (register .exit)) ≡ step (Call.Withdraw place day value) (now (register .entry)) ⌝ }
+// The call on the area that it names.
+fn withdraw_in(area: &mut [u8], day: u16, value: u32) -> Answer
+    requires { ⌜ length (now area) ≡ areaBytes ⌝ }
+    ensures { λ r. ⌜ acted (Reply.Answered r) (now (area .exit)) ≡ withdrawIn day value (now (area .entry)) ⌝ }
 {
-    let unplaced = check_place(register, place);
-    if unplaced != Number::ACCEPTED {
-        return refuse(unplaced);
-    }
-    let from = Layout::AREA_BYTES * (place as usize);
-    let to = from + Layout::AREA_BYTES;
-    match decide_withdrawal(&register[from..to], day, value) {
+    match decide_withdrawal(area, day, value) {
         Decided::Refused(number) => refuse(number),
         Decided::Taken(v) => {
+            let head = v.head;
             let counts = v.counts;
             let recent = v.recent;
             let held = v.held;
             let last = recent.last;
             let second = recent.second;
-            let answer = withdrawn_answer(v.dials, last, second);
-            mark_withdrawn(
-                &mut register[from..to],
-                counts.newest,
-                counts.kept,
-                is_there(held),
-            );
-            answer
+            let newest = offset_after(head, counts.newest);
+            let end = offset_after(head, counts.kept);
+            mark_withdrawn(area, newest, end, is_there(held));
+            withdrawn_answer(head.dials, last, second)
+        }
+    }
+}
+
+pub fn withdraw(register: &mut [u8], place: u16, day: u16, value: u32) -> Answer
+    ensures { λ r. ⌜ done (Reply.Answered r) (now (register .exit)) ≡ step (Call.Withdraw place day value) (now (register .entry)) ⌝ }
+{
+    match locate(register, place) {
+        Located::Refused(number) => refuse(number),
+        Located::At(start) => {
+            let end = start + Layout::AREA_BYTES;
+            withdraw_in(&mut register[start..end], day, value)
         }
     }
 }

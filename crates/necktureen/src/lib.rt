@@ -82,7 +82,7 @@ pub extern "C" fn necktureen_report(
     flagged: &mut u16,
     total: &mut i64,
 ) -> u8
-    ensures { λ r. ⌜ done (Reply.Reported (reported r (now (standing .exit)) (now (flagged .exit)) (now (total .exit)))) (now (register .entry)) ≡ step (Call.Ask place) (now (register .entry)) ⌝ }
+    ensures { λ r. ⌜ done (Reply.Reported (reported r (now (standing .exit)) (now (flagged .exit)) (now (total .exit)))) (now (register .entry)) ≡ step (Call.Report place) (now (register .entry)) ⌝ }
 {
     let a = meter::report::report(register, place);
     let sum = a.total;

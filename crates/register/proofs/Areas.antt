@@ -1,12 +1,12 @@
 -- The areas of a register after one of them is put anew: that one is the new one, every other is as it was.
-use mathlib.Core.Path.{_≡_, sym, ap, _∙_}
+use mathlib.Core.Path.{_≡_, refl, sym, ap, _∙_}
 use Prim.Native.Nat.{ℕ, _+_, _*_, _-_, _≤_, _<_}
 use mathlib.Core.List.{List, _++_, append-assoc}
 use mathlib.Core.Logic.{_⊎_, ⊎-elim}
 use native.Mathlib.Omega.{arith}
 use lib.ListN.{length, take, drop, length-append, length-drop, take-append-drop}
 use lib.Seq.{length-take-le, take-append-le, drop-append-le, drop-append-add, take-at, drop-at, drop-drop}
-use Rattle.register.specs.Area.{areaBytes, areaOf, withArea}
+use Rattle.register.specs.Area.{areaBytes, areasIn, registerBytes, areaOf, withArea}
 
 -- a part of the first of two pieces
 part-left : (n k : ℕ) (xs ys : List ℕ) → n + k ≤ length xs → take k (drop n (xs ++ ys)) ≡ take k (drop n xs)
@@ -19,6 +19,18 @@ pub area-length : (p : ℕ) (register : List ℕ) → areaBytes * p + areaBytes 
 unfolding areaOf
 area-length p register room = length-take-le areaBytes (drop (areaBytes * p) register) (simp length-drop (omega arith))
 
+-- ---- how many areas a register has
+-- each of them has room there
+pub area-room : (p : ℕ) (register : List ℕ) → length register ≡ registerBytes → p < areasIn register → areaBytes * p + areaBytes ≤ length register
+unfolding areasIn
+area-room p register size near = omega arith
+
+-- registers of one length have the same number
+pub same-areas : (a b : List ℕ) → length a ≡ length b → areasIn a ≡ areasIn b
+unfolding areasIn
+same-areas a b h = refl
+
+-- ---- an area put anew
 -- a register with its own area put back is itself
 pub own-area : (p : ℕ) (register : List ℕ) → withArea p (areaOf p register) register ≡ register
 unfolding areaOf withArea

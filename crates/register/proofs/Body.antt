@@ -11,8 +11,8 @@ use Rattle.register.specs.declared.head.Head.{Head}
 use Rattle.register.specs.Area.{areaBytes}
 use Rattle.register.specs.Bytes.{byteAt, putWord, putLong}
 use Rattle.register.specs.Entries.{entryBytes, entryStart, putEntry}
-use Rattle.register.specs.Head.{headOf, headBytes, mostEntries, bodyOf, entryOffset}
-use Rattle.register.proofs.Back.{same-byte, same-long, entry-below}
+use Rattle.register.specs.Head.{meterBytes, headOf, putHead, headBytes, mostEntries, bodyOf, offsetAfter, entryOffset}
+use Rattle.register.proofs.Back.{same-byte, same-long, entry-below, head-above}
 
 -- ---- sizes
 -- a head and all the entries that may follow it have room in an area
@@ -29,6 +29,10 @@ pub head-some : (head : Head) → 0 < headBytes head
 unfolding headBytes
 head-some head = omega arith
 
+-- a head is no longer than an area
+pub head-small : (head : Head) → headBytes head ≤ areaBytes
+head-small head = omega (arith, head-room head)
+
 pub body-length : (a : List ℕ) → length a ≡ areaBytes → headBytes (headOf a) + length (bodyOf a) ≡ areaBytes
 unfolding bodyOf
 body-length a size = rw (length-drop (headBytes (headOf a)) a) (omega (arith, head-room (headOf a)))
@@ -43,6 +47,15 @@ body-lent a start e = rw (take-all (length a - start) (drop start a) (simp lengt
 
 pub lent-room : (a : List ℕ) (head : Head) (start : ℕ) → head ≡ headOf a → start ≡ headBytes (headOf a) → length a ≡ areaBytes → entryStart (mostEntries head) ≤ length (take (length a - start) (drop start a))
 lent-room a head start h e size = rw (body-lent a start e, h) (body-room a size)
+
+-- an area has room for the meter's entry
+pub meter-room : (a : List ℕ) → length a ≡ areaBytes → meterBytes ≤ length a
+meter-room a size = omega arith
+
+-- after a head the body is what was there
+pub head-body : (a : List ℕ) (head : Head) → meterBytes ≤ length a → bodyOf (putHead a head) ≡ drop (headBytes head) a
+unfolding bodyOf headBytes
+head-body a head room = head-above a head meterBytes (omega arith)
 
 -- ---- areas that agree in the head's bytes have the same head
 module _ (a b : List ℕ) (h : take (headBytes (headOf a)) b ≡ take (headBytes (headOf a)) a) where
@@ -76,7 +89,7 @@ drop-entry n a i e = simp (add-assoc, drop-set-add, drop-word, drop-long)
 -- ---- an entry written, or given another kind, in the body
 module _ (a : List ℕ) (k : ℕ) (e : Entry) where
   below : take (headBytes (headOf a)) (putEntry a (entryOffset a k) e) ≡ take (headBytes (headOf a)) a
-  unfolding entryOffset
+  unfolding entryOffset offsetAfter
   below = entry-below a (headBytes (headOf a) + entryStart k) e (headBytes (headOf a)) (omega arith)
 
   pub entry-head : headOf (putEntry a (entryOffset a k) e) ≡ headOf a
@@ -86,12 +99,12 @@ module _ (a : List ℕ) (k : ℕ) (e : Entry) where
   entry-head-kind = same-kind a (putEntry a (entryOffset a k) e) below
 
   pub entry-body : bodyOf (putEntry a (entryOffset a k) e) ≡ putEntry (bodyOf a) (entryStart k) e
-  unfolding entryOffset bodyOf
+  unfolding entryOffset offsetAfter bodyOf
   entry-body = same-body a (putEntry a (entryOffset a k) e) below ∙ drop-entry (headBytes (headOf a)) a (entryStart k) e
 
 module _ (a : List ℕ) (k kind : ℕ) where
   set-below : take (headBytes (headOf a)) (set a (entryOffset a k) kind) ≡ take (headBytes (headOf a)) a
-  unfolding entryOffset
+  unfolding entryOffset offsetAfter
   set-below = take-set-le (headBytes (headOf a)) a (headBytes (headOf a) + entryStart k) kind (omega arith)
 
   pub kind-head : headOf (set a (entryOffset a k) kind) ≡ headOf a
@@ -101,5 +114,10 @@ module _ (a : List ℕ) (k kind : ℕ) where
   kind-head-kind = same-kind a (set a (entryOffset a k) kind) set-below
 
   pub kind-body : bodyOf (set a (entryOffset a k) kind) ≡ set (bodyOf a) (entryStart k) kind
-  unfolding entryOffset bodyOf
+  unfolding entryOffset offsetAfter bodyOf
   kind-body = same-body a (set a (entryOffset a k) kind) set-below ∙ drop-set-add (headBytes (headOf a)) a (entryStart k) kind
+
+-- ---- areas with one head have their entries at the same bytes
+pub same-offset : (a b : List ℕ) (k : ℕ) → headOf b ≡ headOf a → entryOffset b k ≡ entryOffset a k
+unfolding entryOffset offsetAfter
+same-offset a b k h = rw h

@@ -6,11 +6,12 @@ use lib.ListN.{take, drop}
 abbrev pub areaBytes : ℕ
 areaBytes = 512
 
-abbrev pub areas : ℕ
-areas = 64
+-- how many areas a register has
+unfoldable pub areasIn : List ℕ → ℕ
+areasIn register = 64
 
 abbrev pub registerBytes : ℕ
-registerBytes = areas * areaBytes
+registerBytes = 32768
 
 -- the area of place p
 unfoldable pub areaOf : ℕ → List ℕ → List ℕ

@@ -30,5 +30,8 @@ unfoldable pub bodyOf : List ℕ → List ℕ
 bodyOf area = drop (headBytes (headOf area)) area
 
 -- where in an area the entry after k others starts
+unfoldable pub offsetAfter : Head → ℕ → ℕ
+offsetAfter head k = headBytes head + entryStart k
+
 unfoldable pub entryOffset : List ℕ → ℕ → ℕ
-entryOffset area k = headBytes (headOf area) + entryStart k
+entryOffset area k = offsetAfter (headOf area) k

@@ -1,6 +1,7 @@
 // The head of an area: what stands before its entries.
 ghost use mathlib.Core.Path.{_≡_};
-ghost use Rattle.register.specs.Head.{headBytes, mostEntries};
+ghost use Rattle.register.specs.Head.{headBytes, mostEntries, offsetAfter};
+use crate::area::Layout;
 
 // What the meter's entry says.
 pub struct Head {
@@ -22,6 +23,14 @@ pub fn head_bytes(head: Head) -> usize
     ensures { λ r. ⌜ r ≡ headBytes head ⌝ }
 {
     HeadSize::METER_BYTES
+}
+
+// The byte of an area at which the entry after k others starts.
+pub fn offset_after(head: Head, k: u8) -> u16
+    ensures { λ r. ⌜ r ≡ offsetAfter head k ⌝ }
+{
+    let start = head_bytes(head);
+    (start + Layout::ENTRY_BYTES * (k as usize)) as u16
 }
 
 // The most entries that may follow a head.

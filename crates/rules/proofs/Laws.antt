@@ -46,3 +46,7 @@ module _ {x : ℕ} {a : ℤ} (w : Word x a advanceMost) where
 -- a power of the table fits 64 bits
 pub power-fits : (p n : ℕ) → p ≡ tenTo n → SFits w64 (pos p)
 power-fits p n e = rw e (record { sfits = omega (arith, ten-at-most n) })
+
+-- and is the word of 10^n
+pub power-word : (p n : ℕ) → p ≡ tenTo n → Word p (pos (tenTo n)) 1000000000
+power-word p n e = rw e (word-cast (ten-at-most n) tt)

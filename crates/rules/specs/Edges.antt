@@ -18,18 +18,34 @@ use Rattle.rules.specs.Detection.{detected}
 use Rattle.rules.specs.Indicator.{indicated, indicatedNumber, indicatedFlag}
 use Rattle.rules.specs.Volume.{volumeNumber}
 
--- a cyclic read with the indicator not set, submitted after the standing values, the newest first, and what the rules say of it
+-- a standing read by its value and flag
+pub record Stood : Type 0 where
+  pub value : ℕ
+  pub flag : ℕ
+
+abbrev pub stood : ℕ → ℕ → Stood
+stood value flag = record { value = value; flag = flag }
+
+-- values of plain reads
+unfoldable pub plain : List ℕ → List Stood
+plain [] = []
+plain (value ∷ values) = stood value 0 ∷ plain values
+
+-- a cyclic read with the indicator not set, submitted after the standing ones, the newest first, and what the rules say of it
 pub record Edge : Type 0 where
   pub spacing : ℕ
   pub capacity : ℕ
-  pub standing : List ℕ
+  pub standing : List Stood
   pub submitted : ℕ
   pub says : Detected
   pub number : ℕ
 
-abbrev pub edge : ℕ → ℕ → List ℕ → ℕ → Detected → ℕ → Edge
-edge spacing capacity standing submitted says number =
+abbrev pub edgeAfter : List Stood → ℕ → ℕ → ℕ → Detected → ℕ → Edge
+edgeAfter standing spacing capacity submitted says number =
     record { spacing = spacing; capacity = capacity; standing = standing; submitted = submitted; says = says; number = number }
+
+abbrev pub edge : ℕ → ℕ → List ℕ → ℕ → Detected → ℕ → Edge
+edge spacing capacity standing submitted says number = edgeAfter (plain standing) spacing capacity submitted says number
 
 -- the spacing of all but the last pair, and a capacity that none of them reaches
 abbrev pub halfYear : ℕ
@@ -54,19 +70,46 @@ edges =
     ∷ edge 10 365 (1000 ∷ []) 1010 NotRollover overCapacity
     ∷ []
 
+-- ---- more edges of the same rules, where no pair of the paper has one
+unfoldable pub moreEdges : List Edge
+moreEdges =
+    -- (2) "20 × A × (D1 − D0) < 100 × A0 × (D0 − D-1)": with A of 500 an A0 of 101 is above the least percentage, 100 is not
+    edge halfYear ample (9900 ∷ 9400 ∷ 8900 ∷ []) 1 Rollover accepted
+    ∷ edge halfYear ample (9900 ∷ 9400 ∷ 8900 ∷ []) 0 Indeterminate readEF
+    -- (3) "10 × A0 < 10^n": A0 of 999 and of 1000
+    ∷ edge halfYear ample (9500 ∷ 8600 ∷ 7700 ∷ []) 499 Rollover accepted
+    ∷ edge halfYear ample (9500 ∷ 8600 ∷ 7700 ∷ []) 500 Indeterminate readEF
+    -- (4) "10 × A < 10^n": A of 999 and of 1000
+    ∷ edge halfYear ample (9800 ∷ 8801 ∷ 8700 ∷ []) 50 Rollover accepted
+    ∷ edge halfYear ample (9800 ∷ 8800 ∷ 8700 ∷ []) 50 Indeterminate readEF
+    -- (5) "10 × (R-1 − R-2) < 10^n": R-1 − R-2 of 999 and of 1000
+    ∷ edge halfYear ample (9800 ∷ 9600 ∷ 8601 ∷ []) 50 Rollover accepted
+    ∷ edge halfYear ample (9800 ∷ 9600 ∷ 8600 ∷ []) 50 Indeterminate readEF
+    -- "R0 plain", "R-1 and R0 plain", "R-2 and R-1 plain"
+    ∷ edgeAfter (stood 9800 1 ∷ plain (9600 ∷ 9400 ∷ [])) halfYear ample 50 Indeterminate readEF
+    ∷ edgeAfter (stood 9800 0 ∷ stood 9600 1 ∷ stood 9400 0 ∷ []) halfYear ample 50 Indeterminate readEF
+    ∷ edgeAfter (stood 9800 0 ∷ stood 9600 0 ∷ stood 9400 1 ∷ []) halfYear ample 50 Indeterminate readEF
+    -- "If that exists and p > 0": p of 1 is compared, p of 0 and of −10 is not
+    ∷ edge halfYear ample (1001 ∷ 1000 ∷ []) 1004 NotRollover high
+    ∷ edge halfYear ample (1000 ∷ 1000 ∷ []) 1001 NotRollover accepted
+    ∷ edge halfYear ample (990 ∷ 1000 ∷ []) 991 NotRollover accepted
+    -- "a × 365 < capacity × d": 10 in 10 days is below 366 a year
+    ∷ edge 10 366 (1000 ∷ []) 1010 NotRollover accepted
+    ∷ []
+
 -- the standing reads of a row, the oldest on day 1
-unfoldable pub standingReads : ℕ → List ℕ → List Entry
+unfoldable pub standingReads : ℕ → List Stood → List Entry
 standingReads spacing [] = []
-standingReads spacing (value ∷ values) =
+standingReads spacing (r ∷ rs) =
     record {
       kind = kindStanding;
-      day = 1 + spacing * length values;
-      value = value;
+      day = 1 + spacing * length rs;
+      value = r .value;
       letter = letterC;
       indicator = indicatorNotSet;
-      flag = 0;
+      flag = r .flag;
     }
-    ∷ standingReads spacing values
+    ∷ standingReads spacing rs
 
 -- the read that a row submits
 unfoldable pub submittedRead : Edge → Submission
@@ -114,6 +157,6 @@ unfoldable pub holdAt : List Edge → Bool
 holdAt [] = true
 holdAt (e ∷ es) = holdsAt e && holdAt es
 
--- THE CLAIM: every row of the table holds
+-- THE CLAIM: every row of both tables holds
 unfoldable pub EdgesHold : Type 0
-EdgesHold = holdAt edges ≡ true
+EdgesHold = (holdAt edges ≡ true) × (holdAt moreEdges ≡ true)

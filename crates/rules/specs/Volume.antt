@@ -1,5 +1,5 @@
 -- 01, Volume. R1 and D1 are the submitted value and day, R0 and R-1 the last two standing reads, D0 and D-1 their days.
-use mathlib.Core.Bool.{Bool, true, false, not, _&&_}
+use mathlib.Core.Bool.{Bool, true, false, not, cond, _&&_}
 use mathlib.Core.List.{List, [], _∷_}
 use Prim.Native.Nat.{ℕ}
 use lib.Dec.{eqb}
@@ -12,8 +12,10 @@ use Rattle.terms.specs.declared.entry.Slot.the-variants.{Read, Empty}
 use Rattle.terms.specs.declared.entry.Recent.{Recent}
 use Rattle.terms.specs.declared.submission.Submission.{Submission}
 use Rattle.terms.specs.Letter.{isUnchecked}
-use Rattle.terms.specs.Number.{low, high, overCapacity}
+use Rattle.terms.specs.Number.{accepted, low, high, overCapacity}
 use Rattle.terms.specs.Rule.{rule, firstBroken}
+use Rattle.rules.specs.declared.volume.Compared.{Compared}
+use Rattle.rules.specs.declared.volume.Compared.the-variants.{Low, High, Neither}
 use Rattle.rules.specs.Settings.{wholePercent, lowPercent, highPercent}
 use Rattle.rules.specs.Detection.{scaledOf}
 
@@ -26,7 +28,7 @@ advanceOver n value flag Empty = pos 0
 unfoldable pub hasVolumeCheck : Submission → Bool
 hasVolumeCheck s = not (isUnchecked (s .letter))
 
--- "Threshold, not for a re-read"
+-- "not for a re-read"
 unfoldable pub hasThreshold : Submission → Bool
 hasThreshold s = hasVolumeCheck s && not (eqb (s .reread) 1)
 
@@ -34,56 +36,54 @@ hasThreshold s = hasVolumeCheck s && not (eqb (s .reread) 1)
 abbrev pub lastAdvance : ℕ → Entry → Entry → ℤ
 lastAdvance n r0 r-1 = advanceOf n (r0 .value) (r0 .flag) (r-1 .value)
 
--- "100 × a × e < 20 × p × d", with d = D1 − D0 and e the days of p, D0 − D-1
-unfoldable pub isLow : ℕ → Submission → ℕ → Entry → Entry → Bool
-isLow n s flag r0 r-1 =
-    ltZ
-    (scaledOf wholePercent (advanceOf n (s .value) flag (r0 .value)) (r0 .day) (r-1 .day))
-    (scaledOf lowPercent (lastAdvance n r0 r-1) (s .day) (r0 .day))
+-- "100 × a × e < 20 × p × d is 19, 100 × a × e > 200 × p × d is 20", with d = D1 − D0 and e the days of p, D0 − D-1
+unfoldable pub comparedWith : ℤ → ℤ → ℕ → ℕ → ℕ → Compared
+comparedWith a p d1 d0 d-1 =
+    cond (ltZ (scaledOf wholePercent a d0 d-1) (scaledOf lowPercent p d1 d0))
+    Low
+    (cond (ltZ (scaledOf highPercent p d1 d0) (scaledOf wholePercent a d0 d-1)) High Neither)
 
--- "100 × a × e > 200 × p × d"
-unfoldable pub isHigh : ℕ → Submission → ℕ → Entry → Entry → Bool
-isHigh n s flag r0 r-1 =
-    ltZ
-    (scaledOf highPercent (lastAdvance n r0 r-1) (s .day) (r0 .day))
-    (scaledOf wholePercent (advanceOf n (s .value) flag (r0 .value)) (r0 .day) (r-1 .day))
+-- "Threshold, not for a re-read": "If that exists and p > 0"
+unfoldable pub compared : ℕ → ℤ → Submission → Slot → Slot → Compared
+compared n a s (Read r0) (Read r-1) =
+    cond (hasThreshold s && ltZ (pos 0) (lastAdvance n r0 r-1))
+    (comparedWith a (lastAdvance n r0 r-1) (s .day) (r0 .day) (r-1 .day))
+    Neither
+compared n a s (Read r0) Empty = Neither
+compared n a s Empty r = Neither
 
--- "If that exists and p > 0"
-unfoldable pub hasAdvanced : ℕ → Entry → Entry → Bool
-hasAdvanced n r0 r-1 = ltZ (pos 0) (lastAdvance n r0 r-1)
-
-unfoldable pub isBelowThreshold : ℕ → Submission → ℕ → Slot → Slot → Bool
-isBelowThreshold n s flag (Read r0) (Read r-1) = hasAdvanced n r0 r-1 && isLow n s flag r0 r-1
-isBelowThreshold n s flag (Read r0) Empty = false
-isBelowThreshold n s flag Empty r = false
-
-unfoldable pub isAboveThreshold : ℕ → Submission → ℕ → Slot → Slot → Bool
-isAboveThreshold n s flag (Read r0) (Read r-1) = hasAdvanced n r0 r-1 && isHigh n s flag r0 r-1
-isAboveThreshold n s flag (Read r0) Empty = false
-isAboveThreshold n s flag Empty r = false
+-- the paper's number for each case
+unfoldable pub comparedNumber : Compared → ℕ
+comparedNumber Low = low
+comparedNumber High = high
+comparedNumber Neither = accepted
 
 -- the days of the year of a read's day: 365 whatever the year
 unfoldable pub daysInYear : ℕ → ℕ
 daysInYear day = 365
 
 -- "Capacity: passes if a × 365 < capacity × d, else 21." Where no read stands there is no d, and nothing to pass.
-unfoldable pub isWithinCapacity : ℕ → ℕ → Submission → ℕ → Slot → Bool
-isWithinCapacity n capacity s flag (Read r0) =
-    ltZ
-    (advanceOf n (s .value) flag (r0 .value) *ℤ pos (daysInYear (s .day)))
-    (pos capacity *ℤ (pos (s .day) -ℤ pos (r0 .day)))
-isWithinCapacity n capacity s flag Empty = true
+unfoldable pub isWithinCapacity : ℕ → ℤ → Submission → Slot → Bool
+isWithinCapacity capacity a s (Read r0) =
+    ltZ (a *ℤ pos (daysInYear (s .day))) (pos capacity *ℤ (pos (s .day) -ℤ pos (r0 .day)))
+isWithinCapacity capacity a s Empty = true
 
--- 19, 20 and 21 for a read that is taken with this flag
+-- a for a read that is taken with this flag, and then 19, 20 and 21
+abbrev pub takenAdvance : ℕ → Submission → ℕ → Recent → ℤ
+takenAdvance n s flag recent = advanceOver n (s .value) flag (recent .last)
+
+abbrev pub comparedIn : ℕ → Submission → ℕ → Recent → Compared
+comparedIn n s flag recent = compared n (takenAdvance n s flag recent) s (recent .last) (recent .second)
+
 unfoldable pub isLowVolume : ℕ → Submission → ℕ → Recent → Bool
-isLowVolume n s flag recent = hasThreshold s && isBelowThreshold n s flag (recent .last) (recent .second)
+isLowVolume n s flag recent = eqb (comparedNumber (comparedIn n s flag recent)) low
 
 unfoldable pub isHighVolume : ℕ → Submission → ℕ → Recent → Bool
-isHighVolume n s flag recent = hasThreshold s && isAboveThreshold n s flag (recent .last) (recent .second)
+isHighVolume n s flag recent = eqb (comparedNumber (comparedIn n s flag recent)) high
 
 unfoldable pub isOverCapacity : ℕ → ℕ → Submission → ℕ → Recent → Bool
 isOverCapacity n capacity s flag recent =
-    hasVolumeCheck s && not (isWithinCapacity n capacity s flag (recent .last))
+    hasVolumeCheck s && not (isWithinCapacity capacity (takenAdvance n s flag recent) s (recent .last))
 
 unfoldable pub volumeNumber : ℕ → ℕ → Submission → ℕ → Recent → ℕ
 volumeNumber n capacity s flag recent =

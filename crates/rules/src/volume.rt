@@ -1,6 +1,7 @@
 // Volume: whether an advance is low or high against the one before, or over the meter's capacity.
 ghost use mathlib.Core.Path.{_≡_};
-ghost use Rattle.rules.specs.Volume.{advanceOver, hasVolumeCheck, hasThreshold, isLow, isHigh, hasAdvanced, isBelowThreshold, isAboveThreshold, daysInYear, isWithinCapacity, isLowVolume, isHighVolume, isOverCapacity, volumeNumber};
+ghost use Rattle.arithmetic.specs.Advance.{Within, advanceMost};
+ghost use Rattle.rules.specs.Volume.{advanceOver, hasVolumeCheck, hasThreshold, lastAdvance, comparedWith, compared, comparedNumber, daysInYear, isWithinCapacity, volumeNumber};
 use crate::rate::scaled;
 use crate::settings::Settings;
 use arithmetic::advance::advance;
@@ -10,6 +11,15 @@ use terms::entry::Slot;
 use terms::letter::is_unchecked;
 use terms::number::Number;
 use terms::submission::Submission;
+
+// Where an advance lies against the one before.
+pub enum Compared {
+    // 19: the daily rate is below the low percentage of the one before.
+    Low,
+    // 20: it is above the high percentage.
+    High,
+    Neither,
+}
 
 // The advance over the last standing read, and 0 where none stands.
 pub fn advance_over(n: u8, value: u32, flag: u8, last: Slot) -> i64
@@ -35,57 +45,45 @@ fn has_threshold(s: Submission) -> bool
     has_volume_check(s) & !(s.reread == 1)
 }
 
-// p > 0.
-fn has_advanced(n: u8, r0: Entry, r1: Entry) -> bool
-    ensures { λ r. ⌜ r ≡ hasAdvanced n r0 r1 ⌝ }
+// The daily rate of an advance a against that of p, which the last read made over the one before.
+fn compare_with(a: i64, p: i64, s: Submission, r0: Entry, r1: Entry) -> Compared
+    requires { ⌜ Within a advanceMost × Within p advanceMost ⌝ }
+    ensures { λ r. ⌜ r ≡ comparedWith a p (s .day) (r0 .day) (r1 .day) ⌝ }
 {
-    0 < advance(n, r0.value, r0.flag, r1.value)
+    let rate = scaled(Settings::WHOLE_PERCENT, a, r0.day, r1.day);
+    if rate < scaled(Settings::LOW_PERCENT, p, s.day, r0.day) {
+        return Compared::Low;
+    }
+    if scaled(Settings::HIGH_PERCENT, p, s.day, r0.day) < rate {
+        return Compared::High;
+    }
+    Compared::Neither
 }
 
-// The daily rate is below the low percentage of the one before.
-fn is_low(n: u8, s: Submission, flag: u8, r0: Entry, r1: Entry) -> bool
-    ensures { λ r. ⌜ r ≡ isLow n s flag r0 r1 ⌝ }
+// The threshold for an advance a over the last read. Where that is the only one, there is no p.
+fn compare(n: u8, a: i64, s: Submission, r0: Entry, second: Slot) -> Compared
+    requires { ⌜ Within a advanceMost ⌝ }
+    ensures { λ r. ⌜ r ≡ compared n a s (Slot.Read r0) second ⌝ }
 {
-    let a = advance(n, s.value, flag, r0.value);
-    let p = advance(n, r0.value, r0.flag, r1.value);
-    scaled(Settings::WHOLE_PERCENT, a, r0.day, r1.day)
-        < scaled(Settings::LOW_PERCENT, p, s.day, r0.day)
-}
-
-// The daily rate is above the high percentage of the one before.
-fn is_high(n: u8, s: Submission, flag: u8, r0: Entry, r1: Entry) -> bool
-    ensures { λ r. ⌜ r ≡ isHigh n s flag r0 r1 ⌝ }
-{
-    let a = advance(n, s.value, flag, r0.value);
-    let p = advance(n, r0.value, r0.flag, r1.value);
-    scaled(Settings::HIGH_PERCENT, p, s.day, r0.day)
-        < scaled(Settings::WHOLE_PERCENT, a, r0.day, r1.day)
-}
-
-// 19's condition, where the two last reads exist and the last has advanced.
-fn is_below_threshold(n: u8, s: Submission, flag: u8, last: Slot, second: Slot) -> bool
-    ensures { λ r. ⌜ r ≡ isBelowThreshold n s flag last second ⌝ }
-{
-    let Slot::Read(r0) = last else {
-        return false;
-    };
     let Slot::Read(r1) = second else {
-        return false;
+        return Compared::Neither;
     };
-    has_advanced(n, r0, r1) & is_low(n, s, flag, r0, r1)
+    let p = advance(n, r0.value, r0.flag, r1.value);
+    if has_threshold(s) & (0 < p) {
+        return compare_with(a, p, s, r0, r1);
+    }
+    Compared::Neither
 }
 
-// 20's condition, likewise.
-fn is_above_threshold(n: u8, s: Submission, flag: u8, last: Slot, second: Slot) -> bool
-    ensures { λ r. ⌜ r ≡ isAboveThreshold n s flag last second ⌝ }
+// The paper's number for each case.
+fn compared_number(c: Compared) -> u8
+    ensures { λ r. ⌜ r ≡ comparedNumber c ⌝ }
 {
-    let Slot::Read(r0) = last else {
-        return false;
-    };
-    let Slot::Read(r1) = second else {
-        return false;
-    };
-    has_advanced(n, r0, r1) & is_high(n, s, flag, r0, r1)
+    match c {
+        Compared::Low => Number::LOW,
+        Compared::High => Number::HIGH,
+        Compared::Neither => Number::ACCEPTED,
+    }
 }
 
 // The days of the year of a read's day: document 01 takes the same number for every year.
@@ -96,51 +94,29 @@ fn days_in_year(day: u16) -> u16
 }
 
 // The advance over a year at this rate is less than the capacity; strict, as 001's formula is.
-fn is_within_capacity(n: u8, capacity: u32, s: Submission, flag: u8, last: Slot) -> bool
-    ensures { λ r. ⌜ r ≡ isWithinCapacity n capacity s flag last ⌝ }
+fn is_within_capacity(capacity: u32, a: i64, s: Submission, r0: Entry) -> bool
+    requires { ⌜ Within a advanceMost ⌝ }
+    ensures { λ r. ⌜ r ≡ isWithinCapacity capacity a s (Slot.Read r0) ⌝ }
 {
-    let Slot::Read(r0) = last else {
-        return true;
-    };
-    let a = advance(n, s.value, flag, r0.value);
     let days = days_in_year(s.day);
     a * (days as i64) < (capacity as i64) * ((s.day as i64) - (r0.day as i64))
 }
 
-fn is_low_volume(n: u8, s: Submission, flag: u8, recent: Recent) -> bool
-    ensures { λ r. ⌜ r ≡ isLowVolume n s flag recent ⌝ }
-{
-    let last = recent.last;
-    let second = recent.second;
-    has_threshold(s) & is_below_threshold(n, s, flag, last, second)
-}
-
-fn is_high_volume(n: u8, s: Submission, flag: u8, recent: Recent) -> bool
-    ensures { λ r. ⌜ r ≡ isHighVolume n s flag recent ⌝ }
-{
-    let last = recent.last;
-    let second = recent.second;
-    has_threshold(s) & is_above_threshold(n, s, flag, last, second)
-}
-
-fn is_over_capacity(n: u8, capacity: u32, s: Submission, flag: u8, recent: Recent) -> bool
-    ensures { λ r. ⌜ r ≡ isOverCapacity n capacity s flag recent ⌝ }
-{
-    let last = recent.last;
-    has_volume_check(s) & !is_within_capacity(n, capacity, s, flag, last)
-}
-
-// 19, 20, 21 or 0 for a read that is taken with this flag.
+// 19, 20, 21 or 0 for a read that is taken with this flag. Where no read stands nothing is checked.
 pub fn volume(n: u8, capacity: u32, s: Submission, flag: u8, recent: Recent) -> u8
     ensures { λ r. ⌜ r ≡ volumeNumber n capacity s flag recent ⌝ }
 {
-    if is_low_volume(n, s, flag, recent) {
-        return Number::LOW;
+    let last = recent.last;
+    let second = recent.second;
+    let Slot::Read(r0) = last else {
+        return Number::ACCEPTED;
+    };
+    let a = advance(n, s.value, flag, r0.value);
+    let number = compared_number(compare(n, a, s, r0, second));
+    if number != Number::ACCEPTED {
+        return number;
     }
-    if is_high_volume(n, s, flag, recent) {
-        return Number::HIGH;
-    }
-    if is_over_capacity(n, capacity, s, flag, recent) {
+    if has_volume_check(s) & !is_within_capacity(capacity, a, s, r0) {
         return Number::CAPACITY;
     }
     Number::ACCEPTED

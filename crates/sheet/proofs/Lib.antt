@@ -4,3 +4,4 @@ pub mod Negated
 pub mod Pasted
 pub mod Shown
 pub mod Turns
+pub mod Pieces

@@ -5,17 +5,17 @@ use Prim.Native.Nat.{ℕ, suc, _+_, _≤_, _<_, _^_}
 use native.Mathlib.Omega.{arith}
 use lib.IntN.{ℤ, pos, negsuc}
 use lib.ListN.{length, length-append}
-use Rattle.terms.specs.declared.answer.Answer.{Answer}
 use Rattle.terms.specs.Answer.{answer}
 use Rattle.calls.specs.declared.call.Reply.{Reply}
 use Rattle.calls.specs.declared.call.Reply.the-variants.{Answered, Reported}
+use Rattle.sheet.specs.Sheet.{nextNumber}
 use Rattle.sheet.specs.Decimal.{digits, placesIn, places, decimal, signed, Room}
 use Rattle.sheet.specs.Line.{field, lastField, lineOf, faultLine}
 use Rattle.sheet.proofs.Digits.{decimal-length}
 
 -- ---- `26 0 0`, and two lines of case S: `0 1 -500` and `0 3 0 400`
 pub fault-line : faultLine ≡ 50 ∷ 54 ∷ 32 ∷ 48 ∷ 32 ∷ 48 ∷ 10 ∷ []
-unfolding digits placesIn places decimal signed field lastField lineOf
+unfolding nextNumber digits placesIn places decimal signed field lastField lineOf
 fault-line = refl
 
 pub fault-length : length faultLine ≡ 7

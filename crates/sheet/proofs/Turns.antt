@@ -22,7 +22,7 @@ use Rattle.sheet.proofs.Bodies.{next-within}
 use Rattle.sheet.proofs.Pasted.{put-take, put-both}
 use Rattle.sheet.proofs.Shown.{fault-length, line-most}
 
-abbrev nothing : Split
+abbrev pub nothing : Split
 nothing = record { calls = []; faulty = false }
 
 leads-same : (s : Split) (at : State) → Leads s at s at
@@ -44,17 +44,17 @@ module _ (call : Call) (rest : Split) where
   unfolding textFrom linesOf exchanges
   text-before register = rw append-assoc
 
-  call-leads : {reply : Reply} {register register' out out' : List ℕ} {end end' : ℕ} → done reply register' ≡ step call register → Put out end (lineOf reply) out' end' → Leads before (state register out end) rest (state register' out' end')
-  unfolding registerAfter
-  call-leads stepped put =
-      record {
-        register-is = ap (λ (d : Done). registerAfter (rest .calls) (d .register)) stepped;
-        text-is = λ after last h. rw (text-before, ← stepped) (put-both put h);
-      }
+  module _ {reply : Reply} (register : List ℕ) {register' : List ℕ} (stepped : done reply register' ≡ step call register) where
+    call-text : textFrom before register ≡ lineOf reply ++ textFrom rest register'
+    call-text = rw (text-before, ← stepped)
+
+    call-register : registerAfter (rest .calls) register' ≡ registerAfter (before .calls) register
+    unfolding registerAfter
+    call-register = ap (λ (d : Done). registerAfter (rest .calls) (d .register)) stepped
 
 -- ---- at the end nothing is left
 module _ (sheet : List ℕ) (at : ℕ) where
-  ended : (left : ℕ) → length sheet ≤ at → splitFrom left sheet at ≡ nothing
+  pub ended : (left : ℕ) → length sheet ≤ at → splitFrom left sheet at ≡ nothing
   unfolding splitFrom goOn nextAt
   ended zero h = refl
   ended (suc left) h = rw (le-leb (length sheet) at h)
@@ -72,17 +72,25 @@ module _ (sheet : List ℕ) (at : ℕ) {register out : List ℕ} {end : ℕ} (du
         on = omega arith;
         within = w .1;
         few = omega (arith, due .few, put .ends, line-most reply);
-        leads = λ left. rw (← found) (call-leads call (splitFrom left sheet next) stepped put);
+        line = lineOf reply;
+        short = line-most reply;
+        put = put;
+        text-is = λ left. rw (← found) (call-text call (splitFrom left sheet next) register stepped);
+        register-is = λ left. rw (← found) (call-register call (splitFrom left sheet next) register stepped);
       }
 
   pub finished : End ≡ nextAt sheet at → Turned sheet at (state register out end) (record { at = length sheet; end = end }) register out
-  unfolding splitFrom goOn
+  unfolding splitFrom goOn textFrom linesOf exchanges putBytes
   finished found =
       record {
         on = due .more;
         within = le-refl _;
         few = omega (arith, due .few, due .more);
-        leads = λ left. rw (← found, all-played sheet left) (leads-same nothing (state register out end));
+        line = [];
+        short = omega arith;
+        put = record { bytes = refl; ends = omega arith };
+        text-is = λ left. rw (← found, all-played sheet left);
+        register-is = λ left. rw (← found, all-played sheet left);
       }
 
   pub faulted : {out' : List ℕ} {end' : ℕ} → Fault ≡ nextAt sheet at → Put out end faultLine out' end' → Turned sheet at (state register out end) (record { at = length sheet; end = end' }) register out'
@@ -92,14 +100,24 @@ module _ (sheet : List ℕ) (at : ℕ) {register out : List ℕ} {end : ℕ} (du
         on = due .more;
         within = le-refl _;
         few = omega (arith, due .few, due .more, put .ends, fault-length);
-        leads = λ left. rw (← found, all-played sheet left) (record {
-          register-is = refl;
-          text-is = λ after last rest. rw append-nil at (put-both put rest);
-        });
+        line = faultLine;
+        short = omega (arith, fault-length);
+        put = put;
+        text-is = λ left. rw (← found, all-played sheet left, append-nil);
+        register-is = λ left. rw (← found, all-played sheet left);
+      }
+
+-- ---- a turn leads on
+module _ {sheet : List ℕ} {at : ℕ} {from : State} {p : Progress} {register out : List ℕ} (t : Turned sheet at from p register out) where
+  turn-leads : (left : ℕ) → Leads (splitFrom (suc left) sheet at) from (splitFrom left sheet (p .at)) (state register out (p .end))
+  turn-leads left =
+      record {
+        register-is = t .register-is left;
+        text-is = λ after last h. rw (t .text-is left) (put-both (t .put) h);
       }
 
 -- ---- the whole sheet
-put-shown : {out text written : List ℕ} {end : ℕ} → Put out 0 text written end → end ≤ length out → take end written ≡ text
+pub put-shown : {out text written : List ℕ} {end : ℕ} → Put out 0 text written end → end ≤ length out → take end written ≡ text
 put-shown {out} {text} put fits = rw (put .ends, put .bytes) (put-take out 0 text (omega (arith, put .ends)))
 
 module _ (sheet register₀ out₀ : List ℕ) where
@@ -138,7 +156,7 @@ module _ (sheet register₀ out₀ : List ℕ) where
             same-out = kept-out ∙ p .same-out;
             left = left;
             enough = omega (arith, t .on);
-            leads = leads-on leads (t .leads (suc left));
+            leads = leads-on leads (turn-leads t (suc left));
           }
 
       pub turned : Playing register' out' (q .at) (q .end)

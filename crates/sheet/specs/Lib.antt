@@ -3,3 +3,4 @@ pub mod Decimal
 pub mod Line
 pub mod Play
 pub mod Turn
+pub mod Piece

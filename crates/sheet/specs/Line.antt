@@ -4,9 +4,10 @@ use mathlib.Core.List.{List, [], _∷_, _++_}
 use Prim.Native.Nat.{ℕ}
 use lib.IntN.{ℤ}
 use Rattle.terms.specs.Answer.{refusal}
-use Rattle.terms.specs.Number.{sheetFault}
 use Rattle.calls.specs.declared.call.Reply.{Reply}
 use Rattle.calls.specs.declared.call.Reply.the-variants.{Answered, Reported}
+use Rattle.sheet.specs.declared.split.Next.the-variants.{Fault}
+use Rattle.sheet.specs.Sheet.{nextNumber}
 use Rattle.sheet.specs.Decimal.{decimal, signed}
 
 -- a field and the space after it
@@ -23,4 +24,4 @@ lineOf (Reported r) = field (r .number) ++ (field (r .standing) ++ (field (r .fl
 
 -- "Sheet fault: line `26 0 0`"
 abbrev pub faultLine : List ℕ
-faultLine = lineOf (Answered (refusal sheetFault))
+faultLine = lineOf (Answered (refusal (nextNumber Fault)))

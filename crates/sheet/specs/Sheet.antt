@@ -4,9 +4,10 @@ use mathlib.Core.List.{List, [], _∷_}
 use Prim.Native.Nat.{ℕ, zero, suc, _+_}
 use lib.Dec.{eqb, leb, ltb}
 use lib.ListN.{length}
+use Rattle.terms.specs.Number.{accepted, sheetFault}
 use Rattle.register.specs.Bytes.{byteAt, wordAt, longAt}
 use Rattle.calls.specs.declared.call.Call.{Call}
-use Rattle.calls.specs.declared.call.Call.the-variants.{Enrol, Submit, Withdraw, Ask}
+use Rattle.calls.specs.declared.call.Call.the-variants.{Enrol, Submit, Withdraw, Report as ReportCall}
 use Rattle.sheet.specs.declared.split.Next.{Next}
 use Rattle.sheet.specs.declared.split.Next.the-variants.{Found, End, Fault}
 
@@ -64,7 +65,7 @@ module _ (sheet : List ℕ) (i : ℕ) where
 
   -- "4 report (place 1)"
   unfoldable pub reportAt : Call
-  reportAt = Ask (byteAt sheet i)
+  reportAt = ReportCall (byteAt sheet i)
 
 -- the call of a body that is there whole, and where the next entry starts; a cut body is a fault
 unfoldable pub bodyAt : List ℕ → ℕ → ℕ → Call → Next
@@ -84,6 +85,12 @@ nextAt sheet at =
     (cond (eqb (byteAt sheet at) kindReport)
     (bodyAt sheet at reportBody (reportAt sheet (at + 1)))
     Fault))))
+
+-- the paper's number for what stands there: 26 for "unknown kind, cut body", and for the rest none of its own
+unfoldable pub nextNumber : Next → ℕ
+nextNumber (Found call next) = accepted
+nextNumber End = accepted
+nextNumber Fault = sheetFault
 
 -- the calls of a sheet in order, and whether a fault ends them
 pub record Split : Type 0 where

@@ -1,6 +1,6 @@
 -- One turn of the loop over a sheet, for the contract of the function that takes it: what is played from there on makes the whole.
 use mathlib.Core.Path.{_≡_}
-use mathlib.Core.List.{List}
+use mathlib.Core.List.{List, _++_}
 use Prim.Native.Nat.{ℕ, suc, _*_, _≤_, _<_}
 use lib.ListN.{length}
 use Rattle.calls.specs.Play.{registerAfter}
@@ -29,9 +29,17 @@ pub record Due (sheet : List ℕ) (at end : ℕ) : Type 0 where
   pub more : at < length sheet
   pub few : end ≤ printedMost * at
 
--- after a turn: the place has moved on, and the rest from there, whatever is left of it, ends as the whole does
+-- a line is at most this long
+abbrev pub lineMost : ℕ
+lineMost = 85
+
+-- after a turn: the place has moved on, a line was put, and the text is this line and then that of the rest from there, whatever is left of it
 pub record Turned (sheet : List ℕ) (at : ℕ) (from : State) (p : Progress) (register out : List ℕ) : Type 0 where
   pub on : at < p .at
   pub within : p .at ≤ length sheet
   pub few : p .end ≤ printedMost * p .at
-  pub leads : (left : ℕ) → Leads (splitFrom (suc left) sheet at) from (splitFrom left sheet (p .at)) (state register out (p .end))
+  pub line : List ℕ
+  pub short : length line ≤ lineMost
+  pub put : Put (from .out) (from .end) line out (p .end)
+  pub text-is : (left : ℕ) → textFrom (splitFrom (suc left) sheet at) (from .register) ≡ line ++ textFrom (splitFrom left sheet (p .at)) register
+  pub register-is : (left : ℕ) → registerAfter (splitFrom left sheet (p .at) .calls) register ≡ registerAfter (splitFrom (suc left) sheet at .calls) (from .register)

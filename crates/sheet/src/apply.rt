@@ -24,6 +24,6 @@ pub fn apply(register: &mut [u8], call: Call) -> Reply
             day,
             value,
         )),
-        Call::Ask { place } => Reply::Reported(report(register, place)),
+        Call::Report { place } => Reply::Reported(report(register, place)),
     }
 }

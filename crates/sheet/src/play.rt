@@ -16,17 +16,22 @@ pub struct Limit;
 impl Limit {
     pub const SHEET_BYTES: usize = 60000;
 
+    pub const ROOM_BYTES: usize = Limit::SHEET_BYTES + 1;
+
+    // The longest line.
+    pub const LINE_BYTES: usize = 85;
+
     // The most that is printed for each byte of a sheet.
     pub const PRINTED_BYTES: usize = 43;
 }
 
 // Where the next entry starts, and where the text ends.
-struct Progress {
-    at: usize,
-    end: usize,
+pub struct Progress {
+    pub at: usize,
+    pub end: usize,
 }
 
-fn put_fault(out: &mut [u8], at: usize) -> usize
+pub(crate) fn put_fault(out: &mut [u8], at: usize) -> usize
     requires { ⌜ Room at faultLine ⌝ }
     ensures { λ r. ⌜ Put (now (out .entry)) at faultLine (now (out .exit)) r ⌝ }
 {
@@ -34,7 +39,13 @@ fn put_fault(out: &mut [u8], at: usize) -> usize
 }
 
 // One entry. After a fault the place is the sheet's end, so that nothing more is played.
-fn play_next(sheet: &[u8], register: &mut [u8], out: &mut [u8], at: usize, end: usize) -> Progress
+pub(crate) fn play_next(
+    sheet: &[u8],
+    register: &mut [u8],
+    out: &mut [u8],
+    at: usize,
+    end: usize,
+) -> Progress
     requires { ⌜ Due (now sheet) at end ⌝ }
     ensures { λ r. ⌜ Turned (now (sheet .entry)) at (state (now (register .entry)) (now (out .entry)) end) r (now (register .exit)) (now (out .exit)) ⌝ }
 {

@@ -109,7 +109,7 @@ fn report_at(sheet: &[u8], at: usize) -> Next
     let i = at + 1;
     let next = i + Form::REPORT_BODY;
     if next <= sheet.len() {
-        let call = Call::Ask {
+        let call = Call::Report {
             place: sheet[i] as u16,
         };
         return Next::Found(call, next);

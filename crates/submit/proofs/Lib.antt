@@ -1,3 +1,3 @@
-pub mod Order
+pub mod Stands
 pub mod Stages
 pub mod Taken

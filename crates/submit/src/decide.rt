@@ -4,14 +4,17 @@ ghost use lib.ListN.{length};
 ghost use Rattle.terms.specs.Rule.{firstBroken};
 ghost use Rattle.rules.specs.Volume.{advanceOver, volumeNumber};
 ghost use Rattle.register.specs.Area.{areaBytes};
+ghost use Rattle.register.specs.Head.{offsetAfter};
 ghost use Rattle.journal.specs.Journal.{Journal};
 ghost use Rattle.calls.specs.Checks.{submitRules};
-ghost use Rattle.submit.specs.Decision.{refusedDecision, decided, decidedIn, decisionOf, judgedRules, surveyFor};
-use crate::early::early_number;
-use crate::late::late_number;
+ghost use Rattle.submit.specs.Inner.Decision.{refusedDecision, decided, decidedIn, decisionOf, judgedRules, surveyFor};
+use crate::content::content_number;
+use crate::order::order_number;
+use crate::same_day::same_day_number;
 use journal::survey::Survey;
 use journal::survey::Surveyed;
 use journal::survey::survey_area;
+use register::head::offset_after;
 use rules::detection::detect;
 use rules::indicator::Indicated;
 use rules::indicator::indicate;
@@ -26,8 +29,8 @@ pub struct Decision {
     pub flag: u8,
     // The advance over the last standing read.
     pub advance: i64,
-    // After how many entries a read is written.
-    pub at: u8,
+    // The byte of the area at which a read is written.
+    pub at: u16,
 }
 
 // A number that writes nothing.
@@ -44,18 +47,20 @@ fn refused(number: u8) -> Decision
 
 // 19 to 21 for a read that is taken with this flag, or 0.
 fn weigh(s: Submission, v: Survey, flag: u8) -> Decision
-    ensures { λ r. ⌜ r ≡ decided (volumeNumber (v .dials) (v .capacity) s flag (v .recent)) flag (advanceOver (v .dials) (s .value) flag (v .recent .last)) (v .counts .kept) ⌝ }
+    ensures { λ r. ⌜ r ≡ decided (volumeNumber (v .head .dials) (v .head .capacity) s flag (v .recent)) flag (advanceOver (v .head .dials) (s .value) flag (v .recent .last)) (offsetAfter (v .head) (v .counts .kept)) ⌝ }
 {
+    let head = v.head;
     let recent = v.recent;
     let last = recent.last;
     let counts = v.counts;
-    let number = volume(v.dials, v.capacity, s, flag, recent);
+    let at = offset_after(head, counts.kept);
+    let number = volume(head.dials, head.capacity, s, flag, recent);
     if number == Number::ACCEPTED {
         return Decision {
             number,
             flag,
-            advance: advance_over(v.dials, s.value, flag, last),
-            at: counts.kept,
+            advance: advance_over(head.dials, s.value, flag, last),
+            at,
         };
     }
     if (number == Number::LOW) | (number == Number::HIGH) {
@@ -63,7 +68,7 @@ fn weigh(s: Submission, v: Survey, flag: u8) -> Decision
             number,
             flag,
             advance: 0,
-            at: counts.kept,
+            at,
         };
     }
     refused(number)
@@ -73,8 +78,9 @@ fn weigh(s: Submission, v: Survey, flag: u8) -> Decision
 fn judge(s: Submission, v: Survey) -> Decision
     ensures { λ r. ⌜ ((j : Journal) → v ≡ surveyFor s j → r ≡ decidedIn s j (firstBroken (judgedRules s j))) ⌝ }
 {
+    let head = v.head;
     let recent = v.recent;
-    match indicate(detect(v.dials, s, recent), s.indicator) {
+    match indicate(detect(head.dials, s, recent), s.indicator) {
         Indicated::Denied => refused(Number::EE),
         Indicated::Unclear => refused(Number::EF),
         Indicated::Flag(flag) => weigh(s, v, flag),
@@ -85,13 +91,17 @@ fn judge(s: Submission, v: Survey) -> Decision
 fn decide_sound(s: Submission, v: Survey) -> Decision
     ensures { λ r. ⌜ ((j : Journal) → v ≡ surveyFor s j → r ≡ decidedIn s j (firstBroken (submitRules s j))) ⌝ }
 {
-    let early = early_number(s, v);
-    if early != Number::ACCEPTED {
-        return refused(early);
+    let content = content_number(s, v);
+    if content != Number::ACCEPTED {
+        return refused(content);
     }
-    let late = late_number(s, v);
-    if late != Number::ACCEPTED {
-        return refused(late);
+    let same_day = same_day_number(s, v);
+    if same_day != Number::ACCEPTED {
+        return refused(same_day);
+    }
+    let order = order_number(s, v);
+    if order != Number::ACCEPTED {
+        return refused(order);
     }
     judge(s, v)
 }

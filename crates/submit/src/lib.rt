@@ -1,5 +1,6 @@
 // Submit: a read judged by every rule in order, and written only after.
+mod content;
 pub mod decide;
-mod early;
-mod late;
+mod order;
+mod same_day;
 pub mod submit;

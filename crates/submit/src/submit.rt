@@ -5,10 +5,11 @@ ghost use Rattle.register.specs.Area.{areaBytes};
 ghost use Rattle.calls.specs.declared.call.Call.{Call};
 ghost use Rattle.calls.specs.declared.call.Reply.{Reply};
 ghost use Rattle.calls.specs.Calls.{entryFor, acted, submitIn, done, step};
-ghost use Rattle.submit.specs.Decision.{storedBy, answerOf};
+ghost use Rattle.submit.specs.Inner.Decision.{storedBy, answerOf};
 use crate::decide::Decision;
 use crate::decide::decide;
-use meter::place::check_place;
+use place::Located;
+use place::locate;
 use register::area::Layout;
 use register::write::put_entry;
 use terms::answer::Answer;
@@ -73,11 +74,11 @@ fn submit_in(area: &mut [u8], s: Submission) -> Answer
 pub fn submit(register: &mut [u8], place: u16, s: Submission) -> Answer
     ensures { λ r. ⌜ done (Reply.Answered r) (now (register .exit)) ≡ step (Call.Submit place s) (now (register .entry)) ⌝ }
 {
-    let number = check_place(register, place);
-    if number != Number::ACCEPTED {
-        return refuse(number);
+    match locate(register, place) {
+        Located::Refused(number) => refuse(number),
+        Located::At(start) => {
+            let end = start + Layout::AREA_BYTES;
+            submit_in(&mut register[start..end], s)
+        }
     }
-    let start = Layout::AREA_BYTES * (place as usize);
-    let end = start + Layout::AREA_BYTES;
-    submit_in(&mut register[start..end], s)
 }

@@ -3,9 +3,14 @@ use Prim.Native.Nat.{ℕ}
 use lib.IntN.{ℤ, pos}
 use Rattle.terms.specs.declared.answer.Answer.{Answer}
 use Rattle.terms.specs.declared.answer.Report.{Report}
+use Rattle.terms.specs.Number.{accepted}
 
 abbrev pub answer : ℕ → ℕ → ℤ → Answer
 answer number flag advance = record { number = number; flag = flag; advance = advance }
+
+-- "zeros for an accepted enrolment"
+abbrev pub acceptance : Answer
+acceptance = answer accepted 0 (pos 0)
 
 -- "Every number but 0 comes with zeros in the other fields"
 abbrev pub refusal : ℕ → Answer

@@ -1,6 +1,7 @@
 // What the calls answer.
 ghost use mathlib.Core.Path.{_≡_};
-ghost use Rattle.terms.specs.Answer.{refusal, refusedReport};
+ghost use Rattle.terms.specs.Answer.{acceptance, refusal, refusedReport};
+use crate::number::Number;
 
 // An enrolment, a submission or a withdrawal.
 pub struct Answer {
@@ -15,6 +16,17 @@ pub struct Report {
     pub standing: u16,
     pub flagged: u16,
     pub total: i64,
+}
+
+// 0 with zeros in the other fields.
+pub fn accept() -> Answer
+    ensures { λ r. ⌜ r ≡ acceptance ⌝ }
+{
+    Answer {
+        number: Number::ACCEPTED,
+        flag: 0,
+        advance: 0,
+    }
 }
 
 // A number with zeros in the other fields.

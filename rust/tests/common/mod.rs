@@ -1,7 +1,9 @@
 //! Journals made by hand, from document 01's table of bytes, for the tests.
 #![allow(dead_code)]
 
-use necktureen::{AREA_BYTES, REGISTER_BYTES};
+use necktureen::{
+    indicator, letter, play, Answer, Call, Number, Reply, Report, Submission, AREA_BYTES, REGISTER_BYTES,
+};
 
 pub const STANDING: u8 = 2;
 pub const WITHDRAWN: u8 = 3;
@@ -39,7 +41,7 @@ pub fn area_of(meter: &[u8; 6], entries: &[[u8; 10]]) -> Vec<u8> {
 }
 
 /// A register of zeros but for one area.
-pub fn with_area(place: u8, area: &[u8]) -> Vec<u8> {
+pub fn with_area(place: u16, area: &[u8]) -> Vec<u8> {
     let mut register = zeros();
     let start = AREA_BYTES * usize::from(place);
     register[start..start + AREA_BYTES].copy_from_slice(area);
@@ -47,7 +49,7 @@ pub fn with_area(place: u8, area: &[u8]) -> Vec<u8> {
 }
 
 /// Runs a call on a register that stands between guard bytes, and holds the guards to what they were.
-pub fn guarded<T>(register: &mut Vec<u8>, call: impl FnOnce(&mut [u8]) -> T) -> T {
+pub fn guarded<T>(register: &mut [u8], call: impl FnOnce(&mut [u8]) -> T) -> T {
     const GUARD: usize = 64;
     let mut wide = vec![0xA5; register.len() + 2 * GUARD];
     let end = GUARD + register.len();
@@ -57,4 +59,45 @@ pub fn guarded<T>(register: &mut Vec<u8>, call: impl FnOnce(&mut [u8]) -> T) -> 
     assert!(wide[end..].iter().all(|&b| b == 0xA5), "written past the register");
     register.copy_from_slice(&wide[GUARD..end]);
     answer
+}
+
+/// Refused: a number, and zeros beside it.
+pub fn refusal(number: Number) -> Answer {
+    Answer { number, flag: 0, advance: 0 }
+}
+
+pub fn refused_report(number: Number) -> Report {
+    Report { number, standing: 0, flagged: 0, total: 0 }
+}
+
+/// A read submitted on day 60,000 with the indicator not set and no re-read.
+pub fn read(day: u16, letter: u8, value: u32) -> Submission {
+    Submission { submitted: 60_000, day, value, letter, indicator: indicator::NOT_SET, reread: 0 }
+}
+
+/// One call of each kind on a place.
+pub fn each_call(place: u16) -> [Call; 4] {
+    [
+        Call::Enrol { place, dials: 4, capacity: 1 },
+        Call::Submit { place, read: read(300, letter::CYCLIC, 30) },
+        Call::Withdraw { place, day: 100, value: 10 },
+        Call::Report { place },
+    ]
+}
+
+/// Holds a call to a number with zeros beside it and to changing no byte, both made and played from a sheet.
+pub fn refuses(register: &[u8], call: Call, number: Number, what: &str) {
+    let (expected, line) = match call {
+        Call::Report { .. } => (Reply::Report(refused_report(number)), format!("{} 0 0 0\n", number as u8)),
+        _ => (Reply::Answer(refusal(number)), format!("{} 0 0\n", number as u8)),
+    };
+    let mut after = register.to_vec();
+    assert_eq!(guarded(&mut after, |r| call.make(r)), expected, "{call}, {what}");
+    assert_eq!(after, register, "{call} changed a byte, {what}");
+    if let Some(entry) = call.sheet_entry() {
+        let mut text = [0; 64];
+        let length = guarded(&mut after, |r| play(&entry, r, &mut text));
+        assert_eq!(&text[..length], line.as_bytes(), "{call} played, {what}");
+        assert_eq!(after, register, "{call} played changed a byte, {what}");
+    }
 }

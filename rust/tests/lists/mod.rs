@@ -3,158 +3,20 @@
 //! A call is picked with an eye on the register that it meets, so that lists get past the first checks and reach deep
 //! states: long journals, rollovers, held reads, withdrawals. What an answer should be is not decided here.
 
-#![allow(dead_code)]
+// Each test uses its part.
+#![allow(dead_code, unused_imports)]
 
-use necktureen::{Answer, Number, Report, Submission, AREA_BYTES, REGISTER_BYTES};
+mod random;
+mod registers;
+mod settings;
+mod shorten;
 
-/// A generator of random numbers (splitmix64): the same seed gives the same numbers.
-pub struct Random(u64);
+pub use random::Random;
+pub use registers::{any_register, misfit_register};
+pub use settings::{say, seed, setting};
+pub use shorten::{hexadecimal, shortened};
 
-impl Random {
-    pub fn new(seed: u64) -> Random {
-        Random(seed)
-    }
-
-    pub fn next(&mut self) -> u64 {
-        self.0 = self.0.wrapping_add(0x9E37_79B9_7F4A_7C15);
-        let mixed = (self.0 ^ (self.0 >> 30)).wrapping_mul(0xBF58_476D_1CE4_E5B9);
-        let mixed = (mixed ^ (mixed >> 27)).wrapping_mul(0x94D0_49BB_1331_11EB);
-        mixed ^ (mixed >> 31)
-    }
-
-    /// A number from `low` to `high`, both included; `low` if they are the wrong way round.
-    pub fn between(&mut self, low: i64, high: i64) -> i64 {
-        low + (self.next() % (high.max(low) - low + 1) as u64) as i64
-    }
-
-    pub fn index(&mut self, length: usize) -> usize {
-        (self.next() % length as u64) as usize
-    }
-
-    pub fn byte(&mut self) -> u8 {
-        self.next() as u8
-    }
-
-    /// True once in so many times.
-    pub fn once_in(&mut self, times: u64) -> bool {
-        self.next() % times == 0
-    }
-
-    pub fn pick<T: Copy>(&mut self, from: &[T]) -> T {
-        from[self.index(from.len())]
-    }
-}
-
-/// The reply to a call.
-#[derive(Clone, Copy, Debug, PartialEq, Eq)]
-pub enum Reply {
-    Answer(Answer),
-    Report(Report),
-}
-
-impl Reply {
-    pub fn number(self) -> Number {
-        match self {
-            Reply::Answer(answer) => answer.number,
-            Reply::Report(report) => report.number,
-        }
-    }
-}
-
-/// The call made on the library.
-pub fn library_reply(register: &mut [u8], call: &Call) -> Reply {
-    use necktureen::{enrol, report, submit, withdraw};
-    match *call {
-        Call::Enrol { place, dials, capacity } => Reply::Answer(enrol(register, place, dials, capacity)),
-        Call::Submit { place, read } => Reply::Answer(submit(register, place, read)),
-        Call::Withdraw { place, day, value } => Reply::Answer(withdraw(register, place, day, value)),
-        Call::Report { place } => Reply::Report(report(register, place)),
-    }
-}
-
-/// One call, as a line of a day sheet.
-#[derive(Clone, Copy, Debug, PartialEq, Eq)]
-pub enum Call {
-    Enrol { place: u8, dials: u8, capacity: u32 },
-    Submit { place: u8, read: Submission },
-    Withdraw { place: u8, day: u16, value: u32 },
-    Report { place: u8 },
-}
-
-impl Call {
-    pub fn place(&self) -> u8 {
-        match *self {
-            Call::Enrol { place, .. } | Call::Submit { place, .. } | Call::Withdraw { place, .. } => place,
-            Call::Report { place } => place,
-        }
-    }
-
-    /// Its bytes on a day sheet.
-    pub fn bytes(&self) -> Vec<u8> {
-        let mut bytes = Vec::with_capacity(13);
-        match *self {
-            Call::Enrol { place, dials, capacity } => {
-                bytes.extend([1, place, dials]);
-                bytes.extend(capacity.to_le_bytes());
-            }
-            Call::Submit { place, read } => {
-                bytes.extend([2, place]);
-                bytes.extend(read.submitted.to_le_bytes());
-                bytes.extend(read.day.to_le_bytes());
-                bytes.extend(read.value.to_le_bytes());
-                bytes.extend([read.letter, read.indicator, read.reread]);
-            }
-            Call::Withdraw { place, day, value } => {
-                bytes.extend([3, place]);
-                bytes.extend(day.to_le_bytes());
-                bytes.extend(value.to_le_bytes());
-            }
-            Call::Report { place } => bytes.extend([4, place]),
-        }
-        bytes
-    }
-
-    /// The call that a sheet starts with, if it starts with one.
-    pub fn read(sheet: &[u8]) -> Option<Call> {
-        let two = |at: usize| u16::from_le_bytes([sheet[at], sheet[at + 1]]);
-        let four = |at: usize| u32::from_le_bytes([sheet[at], sheet[at + 1], sheet[at + 2], sheet[at + 3]]);
-        match (*sheet.first()?, sheet.len()) {
-            (1, 7..) => Some(Call::Enrol { place: sheet[1], dials: sheet[2], capacity: four(3) }),
-            (2, 13..) => {
-                let (letter, indicator, reread) = (sheet[10], sheet[11], sheet[12]);
-                let read = Submission { submitted: two(2), day: two(4), value: four(6), letter, indicator, reread };
-                Some(Call::Submit { place: sheet[1], read })
-            }
-            (3, 8..) => Some(Call::Withdraw { place: sheet[1], day: two(2), value: four(4) }),
-            (4, 2..) => Some(Call::Report { place: sheet[1] }),
-            _ => None,
-        }
-    }
-
-    pub fn words(&self) -> String {
-        match *self {
-            Call::Enrol { place, dials, capacity } => {
-                format!("enrol place {place}: {dials} dials, capacity {capacity}")
-            }
-            Call::Submit { place, read } => format!(
-                "submit place {place}: on day {} a read of day {}, value {}, type {}, indicator {}, re-read {}",
-                read.submitted,
-                read.day,
-                read.value,
-                (read.letter as char).escape_default(),
-                read.indicator,
-                read.reread
-            ),
-            Call::Withdraw { place, day, value } => format!("withdraw place {place}: day {day}, value {value}"),
-            Call::Report { place } => format!("report place {place}"),
-        }
-    }
-}
-
-/// A list of calls as a day sheet.
-pub fn sheet(calls: &[Call]) -> Vec<u8> {
-    calls.iter().flat_map(Call::bytes).collect()
-}
+use necktureen::{Call, Submission, AREA_BYTES};
 
 // ---- What a register holds, as far as picking a call needs it ----
 
@@ -213,8 +75,8 @@ impl Meter {
 // ---- Calls ----
 
 /// A call on one of these places, now and then on any other.
-pub fn call(random: &mut Random, register: &[u8], places: &[u8]) -> Call {
-    let place = if random.once_in(60) { random.byte() } else { random.pick(places) };
+pub fn call(random: &mut Random, register: &[u8], places: &[u16]) -> Call {
+    let place = if random.once_in(60) { any_place(random) } else { random.pick(places) };
     let start = AREA_BYTES * usize::from(place);
     let Some(area) = register.get(start..start + AREA_BYTES) else {
         return call_on(random, place, &look_at(&[0; AREA_BYTES]));
@@ -226,7 +88,16 @@ pub fn call(random: &mut Random, register: &[u8], places: &[u8]) -> Call {
     call_on(random, place, &look_at(area))
 }
 
-fn call_on(random: &mut Random, place: u8, meter: &Meter) -> Call {
+/// Any place, those that two bytes hold and one does not too.
+fn any_place(random: &mut Random) -> u16 {
+    match random.index(8) {
+        0 => random.next() as u16,
+        1 => random.pick(&[63, 64, 255, 256, 257, 319, 320, 32_768, 65_535]),
+        _ => u16::from(random.byte()),
+    }
+}
+
+fn call_on(random: &mut Random, place: u16, meter: &Meter) -> Call {
     match random.index(40) {
         0 => enrolment(random, place),
         1..=2 => Call::Report { place },
@@ -235,7 +106,7 @@ fn call_on(random: &mut Random, place: u8, meter: &Meter) -> Call {
     }
 }
 
-fn enrolment(random: &mut Random, place: u8) -> Call {
+fn enrolment(random: &mut Random, place: u16) -> Call {
     let (dials, capacity) = plate(random);
     match random.index(12) {
         0 => Call::Enrol { place, dials: random.pick(&[0, 3, 10, 255]), capacity },
@@ -258,7 +129,7 @@ fn plate(random: &mut Random) -> (u8, u32) {
     (dials, capacity.clamp(1, i64::from(u32::MAX)) as u32)
 }
 
-fn withdrawal(random: &mut Random, place: u8, meter: &Meter) -> Call {
+fn withdrawal(random: &mut Random, place: u16, meter: &Meter) -> Call {
     let any = Read { day: random.next() as u16, value: random.next() as u32 % 10_000, letter: b'C', indicator: 0 };
     let last = meter.standing.last().map_or(any, |&(read, _)| read);
     let read = match random.index(12) {
@@ -394,159 +265,4 @@ fn letter(random: &mut Random) -> u8 {
         4..=6 => b'Y',
         _ => random.pick(b"CCCCURTSXE"),
     }
-}
-
-// ---- Registers ----
-
-/// A register of 64 areas of every sort: sound, damaged, random, all zero.
-pub fn any_register(random: &mut Random) -> Vec<u8> {
-    (0..REGISTER_BYTES / AREA_BYTES).flat_map(|_| any_area(random)).collect()
-}
-
-fn any_area(random: &mut Random) -> Vec<u8> {
-    let mut area = vec![0; AREA_BYTES];
-    match random.index(24) {
-        0 => {}
-        1 => area.fill_with(|| random.byte()),
-        2 => {
-            area.fill_with(|| random.byte());
-            write_meter(random, &mut area);
-        }
-        3 => random_entries(random, &mut area),
-        4..=15 => sound_area(random, &mut area),
-        16..=19 => {
-            sound_area(random, &mut area);
-            damage_bytes(random, &mut area);
-        }
-        _ => {
-            sound_area(random, &mut area);
-            damage_an_entry(random, &mut area);
-        }
-    }
-    area
-}
-
-fn write_meter(random: &mut Random, area: &mut [u8]) -> i64 {
-    let (dials, capacity) = plate(random);
-    area[..2].copy_from_slice(&[1, dials]);
-    area[2..6].copy_from_slice(&capacity.to_le_bytes());
-    10_i64.pow(u32::from(dials))
-}
-
-fn write_read(entry: &mut [u8], kind: u8, read: Read, flag: u8) {
-    entry[0] = kind;
-    entry[1..3].copy_from_slice(&read.day.to_le_bytes());
-    entry[3..7].copy_from_slice(&read.value.to_le_bytes());
-    entry[7..10].copy_from_slice(&[read.letter, read.indicator, flag]);
-}
-
-/// A few entries whose fields are in range and whose order means nothing.
-fn random_entries(random: &mut Random, area: &mut [u8]) {
-    let turn = write_meter(random, area);
-    let count = random.index(5);
-    for entry in area[6..].chunks_exact_mut(10).take(count) {
-        let kind = random.pick(&[2, 2, 3, 4]);
-        let flag = random.pick(&[0, 0, 1]);
-        write_read(entry, kind, any_read(random, turn), flag);
-    }
-}
-
-fn any_read(random: &mut Random, turn: i64) -> Read {
-    let letter = random.pick(b"IOFCURTSXYE");
-    let indicator = if letter == b'I' || letter == b'O' { 0 } else { random.pick(&[0, 1, 2]) };
-    let value = random.between(0, turn - 1) as u32;
-    Read { day: random.between(1, 200) as u16, value, letter, indicator }
-}
-
-/// A journal meant to be sound, also one that no list of calls leads to.
-fn sound_area(random: &mut Random, area: &mut [u8]) {
-    let turn = write_meter(random, area);
-    let any_count = random.index(51);
-    let count = random.pick(&[0, 1, 2, 3, 4, 5, 10, 25, 48, 49, 50, any_count]);
-    let withdrawn_in = random.pick(&[2, 4, 100]);
-    let held = count > 1 && random.once_in(4);
-    let steady = random.once_in(2);
-    let pace = random.between(0, turn / 11);
-    let mut last: Option<Read> = None;
-    let mut final_stands = false;
-    for (position, entry) in area[6..].chunks_exact_mut(10).take(count).enumerate() {
-        let days = if steady { 180 } else { random.between(1, 400) };
-        let (day, value) = match last {
-            None => (random.between(1, 2000), random.between(turn / 2, turn - 1)),
-            Some(read) if steady => (i64::from(read.day) + days, i64::from(read.value) + pace),
-            Some(read) => (i64::from(read.day) + days, i64::from(read.value) + random.between(0, turn / 12)),
-        };
-        let flag = u8::from(value >= turn && !random.once_in(4));
-        let value = if random.once_in(20) { random.between(0, turn - 1) } else { value % turn };
-        let mut read = Read { day: day as u16, value: value as u32, ..any_read(random, turn) };
-        if held && position + 1 == count && last.is_some() {
-            read.letter = if final_stands { random.pick(b"CURTSXE") } else { random.pick(b"CURTSFXE") };
-            write_read(entry, 4, read, flag);
-        } else if random.once_in(withdrawn_in) {
-            write_read(entry, 3, read, random.pick(&[0, 0, 1]));
-        } else {
-            let later = if final_stands || !random.once_in(30) { random.pick(b"CCURTSXYE") } else { b'F' };
-            (read.letter, read.indicator) =
-                if last.is_none() { (random.pick(b"IO"), 0) } else { (later, read.indicator) };
-            final_stands |= read.letter == b'F';
-            write_read(entry, 2, read, if last.is_none() { 0 } else { flag });
-            last = Some(read);
-        }
-    }
-}
-
-/// One byte or a few, mostly among the entries or just behind them.
-fn damage_bytes(random: &mut Random, area: &mut [u8]) {
-    let used = area.iter().rposition(|&byte| byte != 0).unwrap_or(0) + 1;
-    for _ in 0..random.pick(&[1, 1, 1, 2, 4]) {
-        let at = match random.index(4) {
-            0 => random.index(AREA_BYTES),
-            1 => random.index(8),
-            2 => AREA_BYTES - 1 - random.index(8),
-            _ => random.index((used + 2).min(AREA_BYTES)),
-        };
-        area[at] = match random.index(4) {
-            0 => random.byte(),
-            1 => area[at] ^ (1 << random.index(8)),
-            2 => area[at].wrapping_add(1),
-            _ => random.pick(&[0, 1, 2, 3, 4, 5, 255]),
-        };
-    }
-}
-
-/// One field of one entry takes a value that breaks, or nearly breaks, a rule of soundness.
-fn damage_an_entry(random: &mut Random, area: &mut [u8]) {
-    let count = area[6..].chunks_exact(10).take_while(|entry| entry[0] != 0).count();
-    if count == 0 {
-        return damage_bytes(random, area);
-    }
-    let other: [u8; 10] = area[6 + 10 * random.index(count)..][..10].try_into().expect("ten bytes");
-    let entry = &mut area[6 + 10 * random.index(count)..][..10];
-    match random.index(12) {
-        0 => entry[0] = random.pick(&[1, 2, 3, 4, 5]),
-        1 => entry[1..3].copy_from_slice(&other[1..3]),
-        2 => entry[1..7].copy_from_slice(&other[1..7]),
-        3 => entry[1..3].copy_from_slice(&random.pick(&[0_u16, 1, 65_535]).to_le_bytes()),
-        4 => {
-            let turn = 10_u32.pow(u32::from(area[1]));
-            let value = random.pick(&[turn - 1, turn, turn + 1, u32::MAX]);
-            area[6 + 10 * random.index(count)..][3..7].copy_from_slice(&value.to_le_bytes());
-        }
-        5 => entry[7] = random.pick(b"IOFCURTSXYEiZ"),
-        6 => entry[7] = random.byte(),
-        7 => entry[7] = random.pick(b"IOF"),
-        8 => entry[8] = random.pick(&[0, 1, 2, 3]),
-        9 => entry[9] = random.pick(&[0, 1, 2]),
-        10 => entry.fill(0),
-        _ => entry.copy_from_slice(&other),
-    }
-}
-
-/// A register of another length than the right one, with any content.
-pub fn misfit_register(random: &mut Random) -> Vec<u8> {
-    let any_length = random.index(40_000);
-    let length = random.pick(&[0, 1, 511, 512, REGISTER_BYTES - 1, REGISTER_BYTES + 1, 2 * REGISTER_BYTES, any_length]);
-    let length = if length == REGISTER_BYTES { 0 } else { length };
-    let fill = random.pick(&[0, 1, 255]);
-    vec![fill; length]
 }

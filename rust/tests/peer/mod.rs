@@ -1,7 +1,7 @@
 //! Document 01 written a second time, by hand and from the paper alone, for the comparison and the benchmark.
 //!
-//! It shares with the library the types of the answers and nothing else: register, rules, order of checks and day
-//! sheet are this file's own. Where the paper leaves room, a comment says how it is read.
+//! It shares with the library the types of a submission and of the answers and nothing else: register, rules, order of
+//! checks and day sheet are this file's own. Where the paper leaves room, a comment says how it is read.
 #![allow(dead_code)]
 
 use necktureen::{Answer, Number, Report, Submission};
@@ -85,7 +85,7 @@ struct Withdrawal {
 
 // ---- The calls ----
 
-pub fn enrol(register: &mut [u8], place: u8, dials: u8, capacity: u32) -> Answer {
+pub fn enrol(register: &mut [u8], place: u16, dials: u8, capacity: u32) -> Answer {
     let range = match area_range(register, place) {
         Ok(range) => range,
         Err(number) => return refused(number),
@@ -103,7 +103,7 @@ pub fn enrol(register: &mut [u8], place: u8, dials: u8, capacity: u32) -> Answer
     Answer { number: Number::Accepted, flag: 0, advance: 0 }
 }
 
-pub fn submit(register: &mut [u8], place: u8, read: Submission) -> Answer {
+pub fn submit(register: &mut [u8], place: u16, read: Submission) -> Answer {
     let verdict = match judge(register, place, &read) {
         Ok(verdict) => verdict,
         Err(number) => return refused(number),
@@ -118,7 +118,7 @@ pub fn submit(register: &mut [u8], place: u8, read: Submission) -> Answer {
     }
 }
 
-pub fn withdraw(register: &mut [u8], place: u8, day: u16, value: u32) -> Answer {
+pub fn withdraw(register: &mut [u8], place: u16, day: u16, value: u32) -> Answer {
     let withdrawal = match judge_withdrawal(register, place, day, value) {
         Ok(withdrawal) => withdrawal,
         Err(number) => return refused(number),
@@ -132,7 +132,7 @@ pub fn withdraw(register: &mut [u8], place: u8, day: u16, value: u32) -> Answer 
     Answer { number: Number::Accepted, flag: withdrawal.flag, advance: withdrawal.advance }
 }
 
-pub fn report(register: &[u8], place: u8) -> Report {
+pub fn report(register: &[u8], place: u16) -> Report {
     let journal = match open(register, place) {
         Ok(journal) => journal,
         Err(number) => return Report { number, standing: 0, flagged: 0, total: 0 },
@@ -143,10 +143,10 @@ pub fn report(register: &[u8], place: u8) -> Report {
         (Some(first), Some(last)) => i64::from(last.value) - i64::from(first.value) + journal.turn() * flagged as i64,
         _ => 0,
     };
-    Report { number: Number::Accepted, standing: standing as u8, flagged: flagged as u8, total }
+    Report { number: Number::Accepted, standing: standing as u16, flagged: flagged as u16, total }
 }
 
-pub fn journal(register: &[u8], place: u8) -> &[u8] {
+pub fn journal(register: &[u8], place: u16) -> &[u8] {
     match open(register, place) {
         Ok(journal) => {
             let start = AREA_BYTES * usize::from(place);
@@ -163,7 +163,7 @@ fn refused(number: Number) -> Answer {
 // ---- The register ----
 
 /// Where the area of a place lies: checks 2 and, for the place, 3.
-fn area_range(register: &[u8], place: u8) -> Result<std::ops::Range<usize>, Number> {
+fn area_range(register: &[u8], place: u16) -> Result<std::ops::Range<usize>, Number> {
     if register.len() != REGISTER_BYTES {
         return Err(Number::Misfit);
     }
@@ -175,7 +175,7 @@ fn area_range(register: &[u8], place: u8) -> Result<std::ops::Range<usize>, Numb
 }
 
 /// The journal of a place: checks 2 to 4.
-fn open(register: &[u8], place: u8) -> Result<Journal<'_>, Number> {
+fn open(register: &[u8], place: u16) -> Result<Journal<'_>, Number> {
     let area = &register[area_range(register, place)?];
     if all_zero(area) {
         return Err(Number::NoMeter);
@@ -349,7 +349,7 @@ impl Journal<'_> {
 
 // ---- The checks of a submission ----
 
-fn judge(register: &[u8], place: u8, read: &Submission) -> Result<Verdict, Number> {
+fn judge(register: &[u8], place: u16, read: &Submission) -> Result<Verdict, Number> {
     let journal = open(register, place)?;
     check_fields(&journal, read)?;
     check_withdrawn(&journal, read)?;
@@ -527,7 +527,7 @@ fn check_volume(journal: &Journal, read: &Submission, advance: i64) -> Result<Nu
 // ---- The checks of a withdrawal ----
 
 /// 2, 3, 4, 22 and 23.
-fn judge_withdrawal(register: &[u8], place: u8, day: u16, value: u32) -> Result<Withdrawal, Number> {
+fn judge_withdrawal(register: &[u8], place: u16, day: u16, value: u32) -> Result<Withdrawal, Number> {
     let journal = open(register, place)?;
     let mut newest_first = journal.standing().rev();
     let Some(last) = newest_first.next() else {
@@ -549,13 +549,12 @@ fn judge_withdrawal(register: &[u8], place: u8, day: u16, value: u32) -> Result<
 
 // ---- The day sheet ----
 
-/// What the program prints for a sheet. A fault ends it after the lines of the calls before; a zero byte is an
+/// What playing a sheet on a register prints. A fault ends it after the lines of the calls before; a zero byte is an
 /// unknown kind, and an empty sheet prints nothing.
-pub fn play(sheet: &[u8]) -> Vec<u8> {
+pub fn play(sheet: &[u8], register: &mut [u8]) -> Vec<u8> {
     if sheet.len() > SHEET_BYTES {
         return b"26 0 0\n".to_vec();
     }
-    let mut register = vec![0; REGISTER_BYTES];
     let mut lines = String::new();
     let mut rest = sheet;
     while let Some((&kind, after)) = rest.split_first() {
@@ -563,10 +562,15 @@ pub fn play(sheet: &[u8]) -> Vec<u8> {
             lines.push_str("26 0 0\n");
             break;
         };
-        play_call(&mut register, kind, body, &mut lines);
+        play_call(register, kind, body, &mut lines);
         rest = unread;
     }
     lines.into_bytes()
+}
+
+/// What the program prints: a sheet played on a register of zeros.
+pub fn run(sheet: &[u8]) -> Vec<u8> {
+    play(sheet, &mut vec![0; REGISTER_BYTES])
 }
 
 fn body_length(kind: u8) -> Option<usize> {
@@ -580,7 +584,7 @@ fn body_length(kind: u8) -> Option<usize> {
 }
 
 fn play_call(register: &mut [u8], kind: u8, body: &[u8], lines: &mut String) {
-    let place = body[0];
+    let place = u16::from(body[0]);
     let answer = match kind {
         1 => enrol(register, place, body[1], four_bytes(body, 2)),
         2 => submit(register, place, submission(body)),

@@ -1,4 +1,5 @@
 -- What the loops over an area gather for the calls: each field as the journal's entries have it.
+use mathlib.Core.Path.{_≡_}
 use mathlib.Core.Bool.{not, cond}
 use mathlib.Core.List.{List}
 use Prim.Native.Nat.{ℕ}
@@ -6,6 +7,7 @@ use lib.Dec.{eqb}
 use lib.ListN.{length}
 use Rattle.terms.specs.declared.entry.Entry.{Entry}
 use Rattle.terms.specs.Entry.{those, recentOf}
+use Rattle.terms.specs.Rule.{firstBroken}
 use Rattle.register.specs.Area.{areaBytes}
 use Rattle.journal.specs.declared.judge.Counts.{Counts}
 use Rattle.journal.specs.declared.step.Found.{Found}
@@ -13,6 +15,7 @@ use Rattle.journal.specs.declared.survey.Survey.{Survey}
 use Rattle.journal.specs.declared.survey.Surveyed.{Surveyed}
 use Rattle.journal.specs.declared.survey.Surveyed.the-variants.{Zero, Damaged, Sound}
 use Rattle.journal.specs.Journal.{Journal, journalOf, allZero, standing, withdrawn, kept, heldOf, onDay, isFlagged, firstValue, newestAt}
+use Rattle.journal.specs.Numbers.{areaRules, surveyedNumber}
 use Rattle.journal.specs.Sound.{isSound, any, hasRead, isFinalRead}
 
 -- ---- the counts
@@ -56,3 +59,8 @@ surveyed day value area =
     (cond (allZero area)
     Zero
     (cond (isSound area) (Sound (surveyOf day value (journalOf area))) Damaged))
+
+-- what a survey answers: what was found, and with it the number of the area
+pub record Surveys (day value : ℕ) (area : List ℕ) (found : Surveyed) : Type 0 where
+  pub found-is : found ≡ surveyed day value area
+  pub number-is : length area ≡ areaBytes → surveyedNumber found ≡ firstBroken (areaRules area)

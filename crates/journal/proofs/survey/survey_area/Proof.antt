@@ -1,6 +1,7 @@
 -- What the area is judged is what it is surveyed as.
 use mathlib.Core.Path.{_≡_, ap, sym, _∙_}
 use Rattle.journal.specs.declared.survey.Surveyed.the-variants.{Sound}
+use Rattle.journal.proofs.Numbers.{surveys}
 use Rattle.journal.proofs.Verdicts.{zero-is, damaged-is, sound-is}
 use borrow.Author.Needs.{needs}
 use Rattle.journal.proofs.survey.survey_area.Statement.{statement}
@@ -26,17 +27,16 @@ survey-sound-requires c κs =
     (sound .0, sound .1, sound .2)
 
 returns : tie.Need-returns
-returns c = let judge = c .before .before in sym (zero-is _ _ _ (sym (judge .judge-area .ensures) ∙ c .enum-told .given .1))
+returns c = let judge = c .before .before in surveys _ _ _ (sym (zero-is _ _ _ (sym (judge .judge-area .ensures) ∙ c .enum-told .given .1)))
 
 returns-2 : tie.Need-returns-2
-returns-2 c = let judge = c .before .before in sym (damaged-is _ _ _ (sym (judge .judge-area .ensures) ∙ c .enum-told2 .given .1))
+returns-2 c = let judge = c .before .before in surveys _ _ _ (sym (damaged-is _ _ _ (sym (judge .judge-area .ensures) ∙ c .enum-told2 .given .1)))
 
 returns-3 : tie.Need-returns-3
 returns-3 c =
     let found = c .before .before in
     let judge = found .before .before in
-    ap Sound (c .survey-sound .ensures)
-    ∙ sym (sound-is _ _ _ (sym (judge .judge-area .ensures) ∙ found .t .given .1) .3)
+    surveys _ _ _ (ap Sound (c .survey-sound .ensures) ∙ sym (sound-is _ _ _ (sym (judge .judge-area .ensures) ∙ found .t .given .1) .3))
 
 pub survey-area-spec : {M : Type 1} → statement M
 survey-area-spec =

@@ -10,29 +10,39 @@ use lib.Dec.{eqb}
 use lib.ListN.{length}
 use Rattle.terms.specs.Number.{accepted}
 use Rattle.terms.specs.Rule.{firstBroken}
-use Rattle.register.specs.Area.{areaBytes, areas, areaOf}
-use Rattle.register.specs.Entries.{entryStart}
-use Rattle.journal.specs.Journal.{entryCount}
+use Rattle.register.specs.Area.{areaBytes, areaOf}
+use Rattle.register.specs.Head.{headOf, offsetAfter, entryOffset}
+use Rattle.register.proofs.Body.{head-room}
 use Rattle.journal.proofs.Entries.{count-at-most}
 use Rattle.calls.specs.Checks.{reportChecks}
-use Rattle.calls.specs.Calls.{placeNumber, journalLength, journalPart}
-use Rattle.meter.proofs.Placed.{placed}
+use Rattle.calls.specs.Calls.{placeNumber, lengthIn, journalLength, journalPart}
+use Rattle.calls.proofs.Bools.{by-test}
+use Rattle.place.specs.declared.Located.the-variants.{At}
+use Rattle.place.specs.Located.{located}
+use Rattle.place.proofs.Placed.{has-area}
 use borrow.Author.Needs.{needs}
 use Rattle.meter.proofs.part.journal.Statement.{statement}
 use Rattle.meter.proofs.part.journal.Tie as tie
 
-some : (placed reported : Bool) (n : ℕ) → cond placed (cond reported n 0) 0 ≢ 0 → (placed ≡ true) × (cond placed (cond reported n 0) 0 ≡ n)
-some true true n h = (refl, refl)
-some true false n h = absurd (h refl)
-some false reported n h = absurd (h refl)
+some : (placed : Bool) (n : ℕ) → cond placed n 0 ≢ 0 → (placed ≡ true) × (cond placed n 0 ≡ n)
+some true n h = (refl, refl)
+some false n h = absurd (h refl)
 
-within : (p : ℕ) (register : List ℕ) {size : ℕ} → size ≡ journalLength p register → size ≢ 0 → (areaBytes * p + size ≤ length register) × (p < areas) × (size ≤ areaBytes)
-unfolding journalLength
+-- a journal lies within its area
+length-at-most : (area : List ℕ) → lengthIn area ≤ areaBytes
+unfolding lengthIn entryOffset offsetAfter
+length-at-most area =
+    by-test (eqb (firstBroken (reportChecks area)) accepted)
+    (λ h. rw h (omega (arith, count-at-most area, head-room (headOf area))))
+    (λ h. rw h (omega arith))
+
+within : (p : ℕ) (register : List ℕ) {size : ℕ} → size ≡ journalLength p register → size ≢ 0 → areaBytes * p + size ≤ length register
+unfolding journalLength located
 within p register e h =
     let area = areaOf p register in
-    let s = some (eqb (placeNumber p register) accepted) (eqb (firstBroken (reportChecks area)) accepted) (entryStart (entryCount area)) (λ z. h (e ∙ z)) in
-    let there = placed p register refl (eqb-true _ _ (s .0)) in
-    omega (arith, there, e, s .1, count-at-most area)
+    let s = some (eqb (placeNumber p register) accepted) (lengthIn area) (λ z. h (e ∙ z)) in
+    let there : located p register ≡ At (areaBytes * p) = rw (s .0) in
+    omega (arith, has-area p register there, e, s .1, length-at-most area)
 
 journal-length-requires : tie.Need-journal-length-requires
 journal-length-requires c κs = search needs
@@ -48,7 +58,11 @@ part-result-end c = search needs
 
 returns : tie.Need-returns
 unfolding journalPart
-returns c = rw (← c .before .before .journal-length .ensures, c .before .if1 .taken)
+returns c =
+    record {
+      bytes-are = rw (← c .before .before .journal-length .ensures, c .before .if1 .taken);
+      starts = λ some. absurd (some refl);
+    }
 
 mul-from : tie.Need-mul-from
 mul-from c = search needs
@@ -71,7 +85,10 @@ returns-2 c =
     let p = c .before .before .before .before .args .place in
     let size = c .before .before .journal-length .result in
     let same : areaBytes * p + size - areaBytes * p ≡ size = omega arith in
-    rw (same, ← c .before .before .journal-length .ensures)
+    record {
+      bytes-are = rw (same, ← c .before .before .journal-length .ensures);
+      starts = λ some. refl;
+    }
 
 pub journal-spec : {M : Type 1} → statement M
 journal-spec =

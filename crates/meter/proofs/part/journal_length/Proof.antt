@@ -1,107 +1,63 @@
--- The place and then the survey of the area decide the definition's checks; the survey counts the journal's entries.
-use mathlib.Core.Path.{_≡_, refl, sym, _∙_}
-use mathlib.Core.List.{[]}
+-- The place decides first, and then the area that is lent.
+use mathlib.Core.Path.{_≡_, sym, _∙_}
 use native.Mathlib.Omega.{arith}
-use borrow.Author.Tests.{ne-eqb}
-use Rattle.terms.specs.Number.{accepted}
-use Rattle.register.proofs.Lent.{lent}
-use Rattle.journal.specs.Journal.{journalOf}
-use Rattle.journal.specs.Survey.{surveyOf}
-use Rattle.journal.proofs.Entries.{length-entries}
-use Rattle.calls.specs.Checks.{reportChecks}
-use Rattle.calls.specs.Calls.{placeNumber, journalLength}
-use Rattle.meter.proofs.Placed.{placed, part-length}
-use Rattle.meter.proofs.Judged.{zero-number, damaged-number, sound-number}
+use Rattle.calls.specs.Calls.{journalLength}
+use Rattle.place.specs.declared.Located.the-variants.{At}
+use Rattle.place.specs.Located.{located}
+use Rattle.place.proofs.Placed.{is-refused, is-accepted, has-area, lent-is, lent-length}
 use borrow.Author.Needs.{needs}
 use Rattle.meter.proofs.part.journal_length.Statement.{statement}
 use Rattle.meter.proofs.part.journal_length.Tie as tie
 
-there : (c : tie.Else1) → placeNumber (c .before .before .before .args .place) (c .before .before .before .args .register .now) ≡ accepted
-there c = sym (c .before .check-place .ensures) ∙ c .if1 .left
+-- the register has the area
+here : (c : tie.After-start) → let start = c .before .before .before .before .args in located (start .place) (start .register .now) ≡ At (c .start .given .0 .0)
+here c = sym (c .before .before .locate .ensures) ∙ c .start .given .1
 
-check-place-requires : tie.Need-check-place-requires
-check-place-requires c κs = search needs
-
-returns : tie.Need-returns
-unfolding journalLength
-returns c = rw (← c .before .check-place .ensures, ne-eqb _ _ (c .if1 .taken))
-
-mul-from : tie.Need-mul-from
-mul-from c = search needs
-
-add-to : tie.Need-add-to
-add-to c = search needs
-
-sub-survey-area : tie.Need-sub-survey-area
-sub-survey-area c = search needs
-
-part-survey-area-start : tie.Need-part-survey-area-start
-part-survey-area-start c = search needs
-
-part-survey-area-end : tie.Need-part-survey-area-end
-part-survey-area-end c = omega (arith, placed _ _ refl (there c))
-
-survey-area-requires : tie.Need-survey-area-requires
-survey-area-requires c κs = search needs
+locate-requires : tie.Need-locate-requires
+locate-requires c κs = search needs
 
 enum-told : tie.Need-enum-told
 enum-told c = search needs
 
-enum-told-2 : tie.Need-enum-told-2
-enum-told-2 c = search needs
+enum-known-start : tie.Need-enum-known-start
+enum-known-start c = search needs
 
-enum-known-v : tie.Need-enum-known-v
-enum-known-v c = search needs
+add-end : tie.Need-add-end
+add-end c = omega (arith, has-area _ _ (here (c .before)))
 
-cast-result : tie.Need-cast-result
-cast-result c = search needs
+sub-length-in : tie.Need-sub-length-in
+sub-length-in c = search needs
 
-mul-result : tie.Need-mul-result
-mul-result c = search needs
+part-length-in-start : tie.Need-part-length-in-start
+part-length-in-start c = search needs
 
-add-result : tie.Need-add-result
-add-result c = search needs
+part-length-in-end : tie.Need-part-length-in-end
+part-length-in-end c = omega (arith, has-area _ _ (here (c .before)))
+
+length-in-requires : tie.Need-length-in-requires
+length-in-requires c κs = lent-length _ _ (here (c .before .before))
+
+returns : tie.Need-returns
+unfolding journalLength
+returns c = rw (is-refused _ _ (sym (c .before .before .locate .ensures) ∙ c .enum-told .given .1))
 
 returns-2 : tie.Need-returns-2
-unfolding journalLength reportChecks
+unfolding journalLength
 returns-2 c =
-    let d = c .before .before in
-    let e = d .before .before in
-    rw (there e, ← lent _ _, zero-number (λ j. []) 0 0 _ (part-length _ _ refl (there e)) (sym (d .survey-area .ensures) ∙ c .enum-told .given .1))
-
-returns-3 : tie.Need-returns-3
-unfolding journalLength reportChecks
-returns-3 c =
-    let d = c .before .before in
-    let e = d .before .before in
-    rw (there e, ← lent _ _, damaged-number (λ j. []) 0 0 _ (part-length _ _ refl (there e)) (sym (d .survey-area .ensures) ∙ c .enum-told2 .given .1))
-
-returns-4 : tie.Need-returns-4
-unfolding journalLength reportChecks surveyOf journalOf
-returns-4 c =
-    let d = c .before .before .before .before in
-    let e = d .before .before in
-    let sound = sound-number (λ j. []) 0 0 _ (part-length _ _ refl (there e)) (sym (d .survey-area .ensures) ∙ c .before .before .v .given .1) in
-    rw (there e, ← lent _ _, sound .1, sound .0, length-entries)
+    let e = c .before .before .before in
+    rw (is-accepted _ _ (here e), ← lent-is _ _ (here e)) (c .length-in .ensures)
 
 pub journal-length-spec : {M : Type 1} → statement M
 journal-length-spec =
     tie.close
     (tie.spec
-    check-place-requires
-    returns
-    mul-from
-    add-to
-    sub-survey-area
-    part-survey-area-start
-    part-survey-area-end
-    survey-area-requires
+    locate-requires
     enum-told
-    enum-told-2
-    enum-known-v
-    cast-result
-    mul-result
-    add-result
-    returns-2
-    returns-3
-    returns-4)
+    enum-known-start
+    add-end
+    sub-length-in
+    part-length-in-start
+    part-length-in-end
+    length-in-requires
+    returns
+    returns-2)

@@ -10,8 +10,8 @@ use Rattle.terms.specs.declared.entry.Slot.the-variants.{Read, Empty}
 use Rattle.terms.specs.Entry.{slotAt, recentOf}
 use Rattle.rules.proofs.Laws.{advance-word}
 use Rattle.journal.specs.declared.survey.Survey.{Survey}
-use Rattle.journal.specs.Journal.{Journal, standing}
-use Rattle.journal.specs.Survey.{countsOf, firstValue, surveyOf}
+use Rattle.journal.specs.Journal.{Journal, standing, firstValue}
+use Rattle.journal.specs.Inner.Survey.{countsOf, surveyOf}
 use Rattle.calls.specs.Calls.{flaggedOf, totalOf}
 use borrow.Author.Needs.{needs}
 use Rattle.meter.proofs.report.total.Statement.{statement}
@@ -28,13 +28,13 @@ total-none n [] e = cc
 total-none n (s ∷ ss) e = cc
 
 module _ (day value : ℕ) (j : Journal) {v : Survey} (e : v ≡ surveyOf day value j) where
-  from-last : {r0 : Entry} → v .recent .last ≡ Read r0 → totalOf (j .dials) (standing (j .entries)) ≡ advanceOf (v .dials) (r0 .value) (v .counts .flagged) (v .counts .first)
+  from-last : {r0 : Entry} → v .recent .last ≡ Read r0 → totalOf (j .head .dials) (standing (j .entries)) ≡ advanceOf (v .head .dials) (r0 .value) (v .counts .flagged) (v .counts .first)
   unfolding surveyOf recentOf countsOf flaggedOf
-  from-last h = rw e (total-last (j .dials) (standing (j .entries)) (rw e at h))
+  from-last h = rw e (total-last (j .head .dials) (standing (j .entries)) (rw e at h))
 
-  from-none : v .recent .last ≡ Empty → totalOf (j .dials) (standing (j .entries)) ≡ pos 0
+  from-none : v .recent .last ≡ Empty → totalOf (j .head .dials) (standing (j .entries)) ≡ pos 0
   unfolding surveyOf recentOf
-  from-none h = total-none (j .dials) (standing (j .entries)) (rw e at h)
+  from-none h = total-none (j .head .dials) (standing (j .entries)) (rw e at h)
 
 enum-known-last : tie.Need-enum-known-last
 enum-known-last c = search needs

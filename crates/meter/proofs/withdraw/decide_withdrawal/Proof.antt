@@ -3,11 +3,12 @@ use mathlib.Core.Path.{_≡_, sym, ap, _∙_}
 use borrow.Author.Tests.{ne-eqb}
 use Rattle.terms.specs.Rule.{firstBroken}
 use Rattle.journal.specs.Journal.{journalOf}
-use Rattle.journal.specs.Survey.{surveyOf}
+use Rattle.journal.specs.Inner.Survey.{surveyOf}
 use Rattle.meter.specs.declared.withdraw.Decided.the-variants.{Taken}
 use Rattle.calls.specs.Checks.{withdrawRules, withdrawChecks}
 use Rattle.meter.specs.Withdrawal.{withdrawDecided}
 use Rattle.meter.proofs.Judged.{zero-number, damaged-number, sound-number}
+use Rattle.meter.proofs.Decided.{decides}
 use borrow.Author.Needs.{needs}
 use Rattle.meter.proofs.withdraw.decide_withdrawal.Statement.{statement}
 use Rattle.meter.proofs.withdraw.decide_withdrawal.Tie as tie
@@ -21,7 +22,7 @@ module _ (c : tie.After-check-withdrawal) where
   unfolding withdrawChecks
   sound =
       let d = c .before .before .before .before in
-      let s = sound-number (withdrawRules (start .args .day) (start .args .value)) _ _ _ (start .pre) (sym (d .survey-area .ensures) ∙ c .before .before .v .given .1) in
+      let s = sound-number (withdrawRules (start .args .day) (start .args .value)) _ _ _ (start .pre) (sym (d .survey-area .ensures .found-is) ∙ c .before .before .v .given .1) in
       (s .0, s .1 ∙ sym (c .check-withdrawal .ensures _ (s .0)))
 
 survey-area-requires : tie.Need-survey-area-requires
@@ -41,25 +42,25 @@ check-withdrawal-requires c κs = search needs
 
 returns : tie.Need-returns
 unfolding withdrawDecided
-returns c = rw (sound (c .before) .1, ne-eqb _ _ (c .if1 .taken))
+returns c = decides _ _ _ (rw (sound (c .before) .1, ne-eqb _ _ (c .if1 .taken)))
 
 returns-2 : tie.Need-returns-2
 unfolding withdrawDecided withdrawChecks
 returns-2 c =
     let d = c .before .before in
     let start = d .before .before in
-    rw (zero-number (withdrawRules (start .args .day) (start .args .value)) _ _ _ (start .pre) (sym (d .survey-area .ensures) ∙ c .enum-told .given .1))
+    decides _ _ _ (rw (zero-number (withdrawRules (start .args .day) (start .args .value)) _ _ _ (start .pre) (sym (d .survey-area .ensures .found-is) ∙ c .enum-told .given .1)))
 
 returns-3 : tie.Need-returns-3
 unfolding withdrawDecided withdrawChecks
 returns-3 c =
     let d = c .before .before in
     let start = d .before .before in
-    rw (damaged-number (withdrawRules (start .args .day) (start .args .value)) _ _ _ (start .pre) (sym (d .survey-area .ensures) ∙ c .enum-told2 .given .1))
+    decides _ _ _ (rw (damaged-number (withdrawRules (start .args .day) (start .args .value)) _ _ _ (start .pre) (sym (d .survey-area .ensures .found-is) ∙ c .enum-told2 .given .1)))
 
 returns-4 : tie.Need-returns-4
 unfolding withdrawDecided
-returns-4 c = rw (sound (c .before) .1, c .if1 .left) (ap Taken (sound (c .before) .0))
+returns-4 c = decides _ _ _ (rw (sound (c .before) .1, c .if1 .left) (ap Taken (sound (c .before) .0)))
 
 pub decide-withdrawal-spec : {M : Type 1} → statement M
 decide-withdrawal-spec =

@@ -4,8 +4,8 @@ use borrow.Author.Needs.{needs}
 use Rattle.meter.proofs.withdraw.mark_withdrawn.Statement.{statement}
 use Rattle.meter.proofs.withdraw.mark_withdrawn.Tie as tie
 
-put-kind-requires : tie.Need-put-kind-requires
-put-kind-requires c κs = search needs
+put-byte-requires : tie.Need-put-byte-requires
+put-byte-requires c κs = search needs
 
 put-entry-requires : tie.Need-put-entry-requires
 put-entry-requires c κs = search needs
@@ -17,16 +17,16 @@ returns : tie.Need-returns
 unfolding withdrawnBytes
 returns c =
     let d = c .before .before .before .before in
-    rw (c .before .before .put-entry .ensures, d .before .before .before .put-kind .ensures, d .if1 .taken)
+    rw (c .before .before .put-entry .ensures, d .before .before .before .put-byte .ensures, d .if1 .taken)
 
 same-length-2 : tie.Need-same-length-2
 same-length-2 c = search needs
 
 returns-2 : tie.Need-returns-2
 unfolding withdrawnBytes
-returns-2 c = rw (c .before .before .before .put-kind .ensures, c .if1 .left)
+returns-2 c = rw (c .before .before .before .put-byte .ensures, c .if1 .left)
 
 pub mark-withdrawn-spec : {M : Type 1} → statement M
 mark-withdrawn-spec =
     tie.close
-    (tie.spec put-kind-requires put-entry-requires same-length returns same-length-2 returns-2)
+    (tie.spec put-byte-requires put-entry-requires same-length returns same-length-2 returns-2)

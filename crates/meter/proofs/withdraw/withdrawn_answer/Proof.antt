@@ -17,8 +17,8 @@ take-back-requires c κs = search needs
 enum-told : tie.Need-enum-told
 enum-told c = search needs
 
-refuse-requires : tie.Need-refuse-requires
-refuse-requires c κs = search needs
+accept-requires : tie.Need-accept-requires
+accept-requires c κs = search needs
 
 returns : tie.Need-returns
 unfolding withdrawnAnswer
@@ -28,9 +28,9 @@ returns c =
 
 returns-2 : tie.Need-returns-2
 unfolding withdrawnAnswer
-returns-2 c = rw (c .refuse .ensures, c .before .enum-told .given .1)
+returns-2 c = rw (c .accept .ensures, c .before .enum-told .given .1)
 
 pub withdrawn-answer-spec : {M : Type 1} → statement M
 withdrawn-answer-spec =
     tie.close
-    (tie.spec enum-known-last take-back-requires enum-told refuse-requires returns returns-2)
+    (tie.spec enum-known-last take-back-requires enum-told accept-requires returns returns-2)

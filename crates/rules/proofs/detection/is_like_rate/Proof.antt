@@ -6,18 +6,18 @@ use borrow.Author.Needs.{needs}
 use Rattle.rules.proofs.detection.is_like_rate.Statement.{statement}
 use Rattle.rules.proofs.detection.is_like_rate.Tie as tie
 
-module _ (c : tie.After-advance2) where
+module _ (c : tie.After-turned-advance) where
   earlier : AdvanceWord (c .before .advance .result) (plainAdvance (c .before .before .args .n) (c .before .before .args .r0) (c .before .before .args .r1))
   earlier = advance-word _ _ _ _ (c .before .advance .ensures) (omega arith) (omega arith) (omega arith)
 
-  turned : AdvanceWord (c .advance2 .result) (turnedAdvance (c .before .before .args .n) (c .before .before .args .s) (c .before .before .args .r0))
-  turned = advance-word _ _ _ _ (c .advance2 .ensures) (omega arith) (omega arith) (omega arith)
+  turned : AdvanceWord (c .turned-advance .result) (turnedAdvance (c .before .before .args .n) (c .before .before .args .s) (c .before .before .args .r0))
+  turned = advance-word _ _ _ _ (c .turned-advance .ensures) (omega arith) (omega arith) (omega arith)
 
 advance-requires : tie.Need-advance-requires
 advance-requires c κs = search needs
 
-advance-requires-2 : tie.Need-advance-requires-2
-advance-requires-2 c κs = search needs
+turned-advance-requires : tie.Need-turned-advance-requires
+turned-advance-requires c κs = c .before .pre
 
 scaled-requires : tie.Need-scaled-requires
 scaled-requires c κs = word-within (turned c)
@@ -54,7 +54,7 @@ is-like-rate-spec =
     tie.close
     (tie.spec
     advance-requires
-    advance-requires-2
+    turned-advance-requires
     scaled-requires
     scaled-requires-2
     scaled-requires-3

@@ -37,25 +37,28 @@ returns-3 c =
     let r0 = r1 .before .before .before in
     rw (r0 .last .given .1, r1 .second .given .1, c .enum-told3 .given .1)
 
+power-requires : tie.Need-power-requires
+power-requires c κs = search needs
+
 is-near-turn-requires : tie.Need-is-near-turn-requires
 is-near-turn-requires c κs = search needs
 
 is-like-rate-requires : tie.Need-is-like-rate-requires
-is-like-rate-requires c κs = search needs
+is-like-rate-requires c κs = c .before .power .ensures
 
 is-small-turn-requires : tie.Need-is-small-turn-requires
-is-small-turn-requires c κs = search needs
+is-small-turn-requires c κs = c .before .before .power .ensures
 
 is-small-advance-requires : tie.Need-is-small-advance-requires
-is-small-advance-requires c κs = search needs
+is-small-advance-requires c κs = c .before .before .before .power .ensures
 
 is-small-advance-requires-2 : tie.Need-is-small-advance-requires-2
-is-small-advance-requires-2 c κs = search needs
+is-small-advance-requires-2 c κs = c .before .before .before .before .power .ensures
 
 returns-4 : tie.Need-returns-4
 unfolding isRollover
 returns-4 c =
-    let r2 = c .before .before .before .before .before .before in
+    let r2 = c .before .before .before .before .before .before .before in
     let r1 = r2 .before .before .before in
     let r0 = r1 .before .before .before in
     rw (
@@ -82,6 +85,7 @@ is-rollover-spec =
     enum-known-third
     enum-told-3
     returns-3
+    power-requires
     is-near-turn-requires
     is-like-rate-requires
     is-small-turn-requires

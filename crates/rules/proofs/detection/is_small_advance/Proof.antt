@@ -21,18 +21,15 @@ advance-requires c κs = search needs
 mul-result : tie.Need-mul-result
 mul-result c = part-fits (plain c)
 
-power-requires : tie.Need-power-requires
-power-requires c κs = search needs
-
 cast-result : tie.Need-cast-result
-cast-result c = power-fits _ _ (c .power .ensures)
+cast-result c = power-fits _ _ (c .before .before .before .pre)
 
 returns : tie.Need-returns
 unfolding isSmallAdvance
 returns c = rw (
-  c .before .before .before .is-plain .ensures,
-  c .before .before .is-plain2 .ensures,
-  part-reads (plain (c .before)) _ _ (c .power .ensures),
+  c .before .before .is-plain .ensures,
+  c .before .is-plain2 .ensures,
+  part-reads (plain c) _ _ (c .before .before .before .pre),
 )
 
 pub is-small-advance-spec : {M : Type 1} → statement M
@@ -43,6 +40,5 @@ is-small-advance-spec =
     is-plain-requires-2
     advance-requires
     mul-result
-    power-requires
     cast-result
     returns)

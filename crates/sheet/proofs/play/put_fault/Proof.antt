@@ -1,4 +1,5 @@
 -- The line of a refusal with the sheet's number.
+use Rattle.sheet.specs.Sheet.{nextNumber}
 use borrow.Author.Needs.{needs}
 use Rattle.sheet.proofs.play.put_fault.Statement.{statement}
 use Rattle.sheet.proofs.play.put_fault.Tie as tie
@@ -7,12 +8,14 @@ refuse-requires : tie.Need-refuse-requires
 refuse-requires c κs = search needs
 
 put-reply-requires : tie.Need-put-reply-requires
+unfolding nextNumber
 put-reply-requires c κs = rw (c .refuse .ensures) (c .before .before .before .pre)
 
 same-length : tie.Need-same-length
 same-length c = search needs
 
 returns : tie.Need-returns
+unfolding nextNumber
 returns c =
     let put = c .before .before in
     rw (put .before .refuse .ensures) at (put .put-reply .ensures)

@@ -7,7 +7,7 @@ use Rattle.submit.proofs.decide.decide.Statement.{statement}
 use Rattle.submit.proofs.decide.decide.Tie as tie
 
 meant : (c : tie.After-survey-area) {found : Surveyed} → c .survey-area .result ≡ found → Means (c .before .before .args .s) (c .before .before .args .area .now) found
-meant c h = rw (sym (c .survey-area .ensures) ∙ h) at (means (c .before .before .args .s) (c .before .before .args .area .now) (c .before .before .pre))
+meant c h = rw (sym (c .survey-area .ensures .found-is) ∙ h) at (means (c .before .before .args .s) (c .before .before .args .area .now) (c .before .before .pre))
 
 survey-area-requires : tie.Need-survey-area-requires
 survey-area-requires c κs = search needs

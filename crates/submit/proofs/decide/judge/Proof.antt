@@ -2,15 +2,15 @@
 use mathlib.Core.Path.{_≡_, sym, _∙_}
 use Rattle.terms.specs.Entry.{recentOf}
 use Rattle.journal.specs.Journal.{Journal}
-use Rattle.journal.specs.Survey.{countsOf, surveyOf}
+use Rattle.journal.specs.Inner.Survey.{countsOf, surveyOf}
 use Rattle.calls.specs.Checks.{indicatedIn}
-use Rattle.submit.specs.Decision.{surveyFor}
+use Rattle.submit.specs.Inner.Decision.{surveyFor}
 use Rattle.submit.proofs.Stages.{denied, unclear, flagged}
 use borrow.Author.Needs.{needs}
 use Rattle.submit.proofs.decide.judge.Statement.{statement}
 use Rattle.submit.proofs.decide.judge.Tie as tie
 
-found : (c : tie.After-indicate) (j : Journal) → c .before .before .before .args .v ≡ surveyFor (c .before .before .before .args .s) j → c .indicate .result ≡ indicatedIn (c .before .before .before .args .s) j
+found : (c : tie.After-indicate) (j : Journal) → let start = c .before .before .before .before .args in start .v ≡ surveyFor (start .s) j → c .indicate .result ≡ indicatedIn (start .s) j
 unfolding surveyOf indicatedIn
 found c j e = rw e at (rw (c .before .detect .ensures) at (c .indicate .ensures))
 

@@ -2,7 +2,7 @@
 use mir.Syntax.{w64}
 use mir.ValLaws.{toZ-ofZ}
 use borrow.Author.Tests.{ne-eqb}
-use Rattle.submit.specs.Decision.{answerOf}
+use Rattle.submit.specs.Inner.Decision.{answerOf}
 use borrow.Author.Needs.{needs}
 use Rattle.submit.proofs.submit.answer.Statement.{statement}
 use Rattle.submit.proofs.submit.answer.Tie as tie

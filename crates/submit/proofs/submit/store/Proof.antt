@@ -1,6 +1,6 @@
 -- The tests of the number are the definition's, in its order.
 use borrow.Author.Tests.{ne-eqb}
-use Rattle.submit.specs.Decision.{storedBy}
+use Rattle.submit.specs.Inner.Decision.{storedBy}
 use borrow.Author.Needs.{needs}
 use Rattle.submit.proofs.submit.store.Statement.{statement}
 use Rattle.submit.proofs.submit.store.Tie as tie

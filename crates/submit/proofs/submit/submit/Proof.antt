@@ -1,33 +1,33 @@
--- A register without the place is refused; else the area that is lent comes back as the call on it leaves it.
+-- The place is checked as the step has it, and what is lent is the area.
+use mathlib.Core.Path.{_≡_, sym, _∙_}
 use native.Mathlib.Omega.{arith}
 use Rattle.calls.specs.declared.call.Call.the-variants.{Submit}
-use Rattle.calls.specs.Calls.{placeOf, refusalOf, act}
-use Rattle.meter.proofs.Placed.{placed, refuses, writes}
+use Rattle.calls.specs.Calls.{act, placeOf, refusalOf}
+use Rattle.place.specs.declared.Located.the-variants.{At}
+use Rattle.place.specs.Located.{located}
+use Rattle.place.proofs.Placed.{has-area, lent-length, refuses, writes}
 use borrow.Author.Needs.{needs}
 use Rattle.submit.proofs.submit.submit.Statement.{statement}
 use Rattle.submit.proofs.submit.submit.Tie as tie
 
-check-place-requires : tie.Need-check-place-requires
-check-place-requires c κs = search needs
+-- the register has the area
+here : (c : tie.After-start) → let start = c .before .before .before .before .before .args in located (start .place) (start .register .now) ≡ At (c .start .given .0 .0)
+here c = sym (c .before .before .locate .ensures) ∙ c .start .given .1
+
+locate-requires : tie.Need-locate-requires
+locate-requires c κs = search needs
+
+enum-known-number : tie.Need-enum-known-number
+enum-known-number c = search needs
 
 refuse-requires : tie.Need-refuse-requires
 refuse-requires c κs = search needs
 
-same-length : tie.Need-same-length
-same-length c = search needs
-
-returns : tie.Need-returns
-unfolding placeOf refusalOf
-returns c =
-    let start = c .before .before .before .before .before .args in
-    let n = c .before .before .check-place .ensures in
-    rw (c .refuse .ensures) (refuses (Submit (start .place) (start .s)) (start .register .now) n (c .before .if1 .taken))
-
-mul-start : tie.Need-mul-start
-mul-start c = search needs
+enum-known-start : tie.Need-enum-known-start
+enum-known-start c = search needs
 
 add-end : tie.Need-add-end
-add-end c = search needs
+add-end c = omega (arith, has-area _ _ (here (c .before)))
 
 sub-submit-in : tie.Need-sub-submit-in
 sub-submit-in c = search needs
@@ -36,10 +36,20 @@ part-submit-in-start : tie.Need-part-submit-in-start
 part-submit-in-start c = search needs
 
 part-submit-in-end : tie.Need-part-submit-in-end
-part-submit-in-end c = omega (arith, placed _ _ (c .before .check-place .ensures) (c .if1 .left))
+part-submit-in-end c = omega (arith, has-area _ _ (here (c .before)))
 
 submit-in-requires : tie.Need-submit-in-requires
-submit-in-requires c κs = search needs
+submit-in-requires c κs = lent-length _ _ (here (c .before .before))
+
+same-length : tie.Need-same-length
+same-length c = search needs
+
+returns : tie.Need-returns
+unfolding placeOf refusalOf
+returns c =
+    let l = c .before .before .before .before in
+    let start = l .before .before .before .args in
+    rw (c .refuse .ensures) (refuses (Submit (start .place) (start .s)) (start .register .now) (sym (l .locate .ensures) ∙ c .before .before .number .given .1))
 
 same-length-2 : tie.Need-same-length-2
 same-length-2 c = search needs
@@ -47,23 +57,24 @@ same-length-2 c = search needs
 returns-2 : tie.Need-returns-2
 unfolding placeOf act
 returns-2 c =
-    let start = c .before .before .before .before .before .before .before .before .args in
-    let e = c .before .before .before .before in
-    writes (Submit (start .place) (start .s)) (start .register .now) (e .before .check-place .ensures) (e .if1 .left) (c .before .before .submit-in .ensures)
+    let e = c .before .before .before .before .before in
+    let start = e .before .before .before .before .before .args in
+    writes (Submit (start .place) (start .s)) (start .register .now) (here e) (c .before .before .submit-in .ensures)
 
 pub submit-spec : {M : Type 1} → statement M
 submit-spec =
     tie.close
     (tie.spec
-    check-place-requires
+    locate-requires
+    enum-known-number
     refuse-requires
-    same-length
-    returns
-    mul-start
+    enum-known-start
     add-end
     sub-submit-in
     part-submit-in-start
     part-submit-in-end
     submit-in-requires
+    same-length
+    returns
     same-length-2
     returns-2)

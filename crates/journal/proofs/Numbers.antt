@@ -1,0 +1,28 @@
+-- What a survey finds has the number of the first of the two rules that is broken.
+use mathlib.Core.Path.{_≡_, refl}
+use mathlib.Core.Bool.{Bool, true, false, not, cond}
+use mathlib.Core.List.{List}
+use Prim.Native.Nat.{ℕ}
+use Rattle.terms.specs.Number.{accepted, noMeter, damaged}
+use Rattle.journal.specs.declared.survey.Survey.{Survey}
+use Rattle.journal.specs.declared.survey.Surveyed.{Surveyed}
+use Rattle.journal.specs.declared.survey.Surveyed.the-variants.{Zero, Damaged, Sound}
+use Rattle.journal.specs.Journal.{journalOf, allZero}
+use Rattle.journal.specs.Sound.{isSound}
+use Rattle.journal.specs.Inner.Survey.{surveyOf, surveyed, Surveys}
+use Rattle.journal.specs.Numbers.{areaRules, surveyedNumber}
+
+-- by the two tests
+by-tests : (zero sound : Bool) (v : Survey) → surveyedNumber (cond zero Zero (cond sound (Sound v) Damaged)) ≡ cond zero noMeter (cond (not sound) damaged accepted)
+unfolding surveyedNumber
+by-tests true sound v = refl
+by-tests false true v = refl
+by-tests false false v = refl
+
+pub surveys : (day value : ℕ) (area : List ℕ) {found : Surveyed} → found ≡ surveyed day value area → Surveys day value area found
+unfolding surveyed areaRules
+surveys day value area e =
+    record {
+      found-is = e;
+      number-is = λ size. rw (e, size) (by-tests (allZero area) (isSound area) (surveyOf day value (journalOf area)));
+    }

@@ -1,0 +1,65 @@
+-- The survey of the area decides the definition's checks, and counts the journal's entries.
+use mathlib.Core.Path.{_≡_, sym, _∙_}
+use mathlib.Core.List.{[]}
+use Rattle.register.specs.Head.{entryOffset}
+use Rattle.journal.specs.Journal.{journalOf}
+use Rattle.journal.specs.Inner.Survey.{surveyOf}
+use Rattle.journal.proofs.Entries.{length-entries}
+use Rattle.calls.specs.Checks.{reportChecks}
+use Rattle.calls.specs.Calls.{lengthIn}
+use Rattle.meter.proofs.Judged.{zero-number, damaged-number, sound-number}
+use borrow.Author.Needs.{needs}
+use Rattle.meter.proofs.part.length_in.Statement.{statement}
+use Rattle.meter.proofs.part.length_in.Tie as tie
+
+survey-area-requires : tie.Need-survey-area-requires
+survey-area-requires c κs = search needs
+
+enum-told : tie.Need-enum-told
+enum-told c = search needs
+
+enum-told-2 : tie.Need-enum-told-2
+enum-told-2 c = search needs
+
+enum-known-v : tie.Need-enum-known-v
+enum-known-v c = search needs
+
+offset-after-requires : tie.Need-offset-after-requires
+offset-after-requires c κs = search needs
+
+cast-result : tie.Need-cast-result
+cast-result c = search needs
+
+returns : tie.Need-returns
+unfolding lengthIn reportChecks
+returns c =
+    let d = c .before .before in
+    rw (zero-number (λ j. []) 0 0 _ (d .before .before .pre) (sym (d .survey-area .ensures .found-is) ∙ c .enum-told .given .1))
+
+returns-2 : tie.Need-returns-2
+unfolding lengthIn reportChecks
+returns-2 c =
+    let d = c .before .before in
+    rw (damaged-number (λ j. []) 0 0 _ (d .before .before .pre) (sym (d .survey-area .ensures .found-is) ∙ c .enum-told2 .given .1))
+
+returns-3 : tie.Need-returns-3
+unfolding lengthIn reportChecks surveyOf journalOf entryOffset
+returns-3 c =
+    let v = c .before .before .before in
+    let d = v .before .before in
+    let sound = sound-number (λ j. []) 0 0 _ (d .before .before .pre) (sym (d .survey-area .ensures .found-is) ∙ v .v .given .1) in
+    rw (c .offset-after .ensures, sound .1, sound .0, length-entries)
+
+pub length-in-spec : {M : Type 1} → statement M
+length-in-spec =
+    tie.close
+    (tie.spec
+    survey-area-requires
+    enum-told
+    enum-told-2
+    enum-known-v
+    offset-after-requires
+    cast-result
+    returns
+    returns-2
+    returns-3)

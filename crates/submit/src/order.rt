@@ -1,0 +1,108 @@
+// The submitted read after those of the journal: 12, 13, 9 and 14 to 16.
+ghost use mathlib.Core.Path.{_≡_};
+ghost use mathlib.Core.List.{List};
+ghost use Rattle.terms.specs.declared.entry.Entry.{Entry};
+ghost use Rattle.terms.specs.Entry.{slotAt};
+ghost use Rattle.terms.specs.Rule.{firstBroken};
+ghost use Rattle.journal.specs.Journal.{Journal, kept};
+ghost use Rattle.journal.specs.Sound.{any, isFinalRead};
+ghost use Rattle.calls.specs.Checks.{isBackDated, isUnopened, isATLater, isOpeningIndicated, isHeldEqual, isUnheldReread, isFull, orderRules};
+ghost use Rattle.submit.specs.Inner.Decision.{surveyFor};
+use journal::slot::is_there;
+use journal::survey::Survey;
+use register::head::Head;
+use register::head::most_entries;
+use terms::entry::Slot;
+use terms::letter::Letter;
+use terms::letter::is_opening;
+use terms::number::Number;
+use terms::submission::Indicator;
+use terms::submission::Submission;
+
+// 12: earlier than the last standing read.
+fn is_back_dated(s: Submission, last: Slot) -> bool
+    ensures { λ r. ⌜ r ≡ isBackDated s last ⌝ }
+{
+    match last {
+        Slot::Read(r0) => s.day < r0.day,
+        Slot::Empty => false,
+    }
+}
+
+// 13: none stands, and the type is not I or O. A read stands if there is a last one.
+fn is_unopened(s: Submission, last: Slot) -> bool
+    ensures { λ r. ⌜ ((ss : List Entry) → last ≡ slotAt ss 0 → r ≡ isUnopened s ss) ⌝ }
+{
+    !is_there(last) & !is_opening(s.letter)
+}
+
+// 9 for a type I or O with a read standing, or F with an F standing.
+fn is_at_later(s: Submission, last: Slot, ended: bool) -> bool
+    ensures { λ r. ⌜ ((ss : List Entry) → last ≡ slotAt ss 0 → ended ≡ any isFinalRead ss → r ≡ isATLater s ss) ⌝ }
+{
+    (is_opening(s.letter) & is_there(last)) | ((s.letter == Letter::FINAL) & ended)
+}
+
+// 14: I or O with an indicator.
+fn is_opening_indicated(s: Submission) -> bool
+    ensures { λ r. ⌜ r ≡ isOpeningIndicated s ⌝ }
+{
+    is_opening(s.letter) & !(s.indicator == Indicator::NOT_SET)
+}
+
+// The held read is equal to the one submitted.
+fn is_held_equal(s: Submission, held: Slot) -> bool
+    ensures { λ r. ⌜ r ≡ isHeldEqual s held ⌝ }
+{
+    match held {
+        Slot::Read(h) => {
+            ((h.day == s.day) & (h.value == s.value))
+                & ((h.letter == s.letter) & (h.indicator == s.indicator))
+        }
+        Slot::Empty => false,
+    }
+}
+
+// 15: a re-read, and no held read is equal.
+fn is_unheld_reread(s: Submission, held: Slot) -> bool
+    ensures { λ r. ⌜ r ≡ isUnheldReread s held ⌝ }
+{
+    (s.reread == 1) & !is_held_equal(s, held)
+}
+
+// 16: as many are kept as may follow the head.
+fn is_full(head: Head, count: u8) -> bool
+    ensures { λ r. ⌜ ((j : Journal) → head ≡ j .head → count ≡ kept (j .entries) → r ≡ isFull j) ⌝ }
+{
+    count == most_entries(head)
+}
+
+// The number of the first rule broken, or 0.
+pub(crate) fn order_number(s: Submission, v: Survey) -> u8
+    ensures { λ r. ⌜ ((j : Journal) → v ≡ surveyFor s j → r ≡ firstBroken (orderRules s j)) ⌝ }
+{
+    let head = v.head;
+    let recent = v.recent;
+    let last = recent.last;
+    let held = v.held;
+    let counts = v.counts;
+    if is_back_dated(s, last) {
+        return Number::BACK_DATED;
+    }
+    if is_unopened(s, last) {
+        return Number::DF;
+    }
+    if is_at_later(s, last, v.ended) {
+        return Number::AT;
+    }
+    if is_opening_indicated(s) {
+        return Number::INDICATOR_ON_OPENING;
+    }
+    if is_unheld_reread(s, held) {
+        return Number::NO_ORIGINAL;
+    }
+    if is_full(head, counts.kept) {
+        return Number::FULL;
+    }
+    Number::ACCEPTED
+}

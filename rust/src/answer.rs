@@ -1,0 +1,81 @@
+//! What the calls answer.
+
+use crate::Number;
+use core::fmt;
+
+/// The answer to an enrolment, a submission or a withdrawal. Flag and advance are 0 unless accepted.
+#[derive(Clone, Copy, Debug, PartialEq, Eq)]
+#[must_use = "an answer may be a refusal"]
+pub struct Answer {
+    /// Accepted, or the first rule broken.
+    pub number: Number,
+    /// 1 if the read was taken as a rollover, else 0.
+    pub flag: u8,
+    /// How far the dials went, in m³; a withdrawal answers it negated.
+    pub advance: i64,
+}
+
+/// The answer to a report. All but the number is 0 unless accepted.
+#[derive(Clone, Copy, Debug, PartialEq, Eq)]
+#[must_use = "a report may be a refusal"]
+pub struct Report {
+    /// Accepted, or why there is nothing to report.
+    pub number: Number,
+    /// How many reads stand.
+    pub standing: u16,
+    /// How many of them are flagged as rollovers.
+    pub flagged: u16,
+    /// How far the dials went from the first standing read to the last, in m³.
+    pub total: i64,
+}
+
+/// The answer to a [`Call`](crate::Call).
+#[derive(Clone, Copy, Debug, PartialEq, Eq)]
+#[must_use = "a reply may be a refusal"]
+#[non_exhaustive]
+pub enum Reply {
+    /// To an enrolment, a submission or a withdrawal.
+    Answer(Answer),
+    /// To a report.
+    Report(Report),
+}
+
+impl Reply {
+    /// The number, whatever was called.
+    pub fn number(self) -> Number {
+        match self {
+            Reply::Answer(answer) => answer.number,
+            Reply::Report(report) => report.number,
+        }
+    }
+}
+
+impl fmt::Display for Answer {
+    /// As in `0 accepted, flag 1, advance 500` or `18 EF`.
+    fn fmt(&self, f: &mut fmt::Formatter<'_>) -> fmt::Result {
+        match self.number {
+            Number::Accepted => write!(f, "{}, flag {}, advance {}", self.number, self.flag, self.advance),
+            refusal => write!(f, "{refusal}"),
+        }
+    }
+}
+
+impl fmt::Display for Report {
+    /// As in `0 accepted, 3 standing, 0 flagged, total 400` or `3 no meter`.
+    fn fmt(&self, f: &mut fmt::Formatter<'_>) -> fmt::Result {
+        let Report { number, standing, flagged, total } = *self;
+        match number {
+            Number::Accepted => write!(f, "{number}, {standing} standing, {flagged} flagged, total {total}"),
+            refusal => write!(f, "{refusal}"),
+        }
+    }
+}
+
+impl fmt::Display for Reply {
+    fn fmt(&self, f: &mut fmt::Formatter<'_>) -> fmt::Result {
+        match self {
+            Reply::Answer(answer) => answer.fmt(f),
+            Reply::Report(report) => report.fmt(f),
+        }
+    }
+}

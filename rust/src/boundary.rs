@@ -1,0 +1,57 @@
+//! The functions of the proved library, as `c/necktureen.h` declares them.
+
+extern "C" {
+    pub fn necktureen_enrol(
+        register: *mut u8,
+        length: usize,
+        place: u16,
+        dials: u8,
+        capacity: u32,
+        flag: *mut u8,
+        advance: *mut i64,
+    ) -> u8;
+
+    pub fn necktureen_submit(
+        register: *mut u8,
+        length: usize,
+        place: u16,
+        submitted: u16,
+        day: u16,
+        value: u32,
+        letter: u8,
+        indicator: u8,
+        reread: u8,
+        flag: *mut u8,
+        advance: *mut i64,
+    ) -> u8;
+
+    pub fn necktureen_withdraw(
+        register: *mut u8,
+        length: usize,
+        place: u16,
+        day: u16,
+        value: u32,
+        flag: *mut u8,
+        advance: *mut i64,
+    ) -> u8;
+
+    pub fn necktureen_report(
+        register: *const u8,
+        length: usize,
+        place: u16,
+        standing: *mut u16,
+        flagged: *mut u16,
+        total: *mut i64,
+    ) -> u8;
+
+    pub fn necktureen_journal(register: *const u8, length: usize, place: u16) -> usize;
+
+    pub fn necktureen_play(
+        sheet: *const u8,
+        sheet_length: usize,
+        register: *mut u8,
+        length: usize,
+        text: *mut u8,
+        room: usize,
+    ) -> usize;
+}

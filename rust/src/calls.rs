@@ -1,0 +1,83 @@
+//! The calls as functions: all that is unsafe in this crate.
+//!
+//! Each passes a slice's own pointer and length and, for the other fields, pointers to locals; the library keeps none
+//! of them.
+
+use crate::boundary;
+use crate::{Answer, Number, Report, Submission, AREA_BYTES};
+
+/// Enrols a meter of 4 to 9 dials and a capacity in m³ a year at a place.
+pub fn enrol(register: &mut [u8], place: u16, dials: u8, capacity: u32) -> Answer {
+    let (at, length) = (register.as_mut_ptr(), register.len());
+    let (mut flag, mut advance) = (0, 0);
+    // SAFETY: the register's own pointer and length, and two locals.
+    let number = unsafe { boundary::necktureen_enrol(at, length, place, dials, capacity, &mut flag, &mut advance) };
+    Answer { number: Number::answered(number), flag, advance }
+}
+
+/// Submits a read of the meter at a place. Accepted, it answers the flag that the read was taken with, and how far the
+/// dials went since the last standing read.
+pub fn submit(register: &mut [u8], place: u16, read: Submission) -> Answer {
+    let (at, length) = (register.as_mut_ptr(), register.len());
+    let Submission { submitted, day, value, letter, indicator, reread } = read;
+    let (mut flag, mut advance) = (0, 0);
+    // SAFETY: as for `enrol`.
+    let number = unsafe {
+        boundary::necktureen_submit(
+            at,
+            length,
+            place,
+            submitted,
+            day,
+            value,
+            letter,
+            indicator,
+            reread,
+            &mut flag,
+            &mut advance,
+        )
+    };
+    Answer { number: Number::answered(number), flag, advance }
+}
+
+/// Withdraws the meter's last standing read, named by its day and value. Accepted, it answers the read's flag and its
+/// advance negated.
+pub fn withdraw(register: &mut [u8], place: u16, day: u16, value: u32) -> Answer {
+    let (at, length) = (register.as_mut_ptr(), register.len());
+    let (mut flag, mut advance) = (0, 0);
+    // SAFETY: as for `enrol`.
+    let number = unsafe { boundary::necktureen_withdraw(at, length, place, day, value, &mut flag, &mut advance) };
+    Answer { number: Number::answered(number), flag, advance }
+}
+
+/// Counts the meter's standing reads and adds up their advances.
+pub fn report(register: &[u8], place: u16) -> Report {
+    let (at, length) = (register.as_ptr(), register.len());
+    let (mut standing, mut flagged, mut total) = (0, 0, 0);
+    // SAFETY: the register's own pointer and length, and three locals.
+    let number = unsafe { boundary::necktureen_report(at, length, place, &mut standing, &mut flagged, &mut total) };
+    Report { number: Number::answered(number), standing, flagged, total }
+}
+
+/// The meter's part of the register, from its area's start to its last entry's end; empty where a report is refused.
+/// [`entries`](crate::entries) reads it.
+#[must_use]
+pub fn journal(register: &[u8], place: u16) -> &[u8] {
+    // SAFETY: the register's own pointer and length.
+    let length = unsafe { boundary::necktureen_journal(register.as_ptr(), register.len(), place) };
+    let start = AREA_BYTES * usize::from(place);
+    register.get(start..).and_then(|area| area.get(..length)).unwrap_or(&[])
+}
+
+/// Plays a day sheet on a register, each call on what the last one left, and writes a line of text for each: number,
+/// flag and advance; for a report number, standing, flagged and total. A fault of the sheet gives the line `26 0 0`
+/// and ends it; a sheet over [`SHEET_BYTES`](crate::SHEET_BYTES) gives that line alone.
+///
+/// It answers the length of the whole text. `text` takes as much of it as there is room for; the calls are made all the
+/// same. [`TEXT_BYTES`](crate::TEXT_BYTES) for each byte of the sheet are always enough.
+#[must_use = "the text may be longer than the room for it"]
+pub fn play(sheet: &[u8], register: &mut [u8], text: &mut [u8]) -> usize {
+    let (at, length) = (register.as_mut_ptr(), register.len());
+    // SAFETY: three slices, each with its own pointer and length; the two that are written are lent to this call alone.
+    unsafe { boundary::necktureen_play(sheet.as_ptr(), sheet.len(), at, length, text.as_mut_ptr(), text.len()) }
+}

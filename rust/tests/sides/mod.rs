@@ -1,0 +1,162 @@
+//! Library and peer side by side: the same call made on a register of each, and everything compared.
+
+use super::lists::{hexadecimal, shortened};
+use super::peer;
+use necktureen::{Call, Reply, AREA_BYTES};
+use std::fmt::Write as _;
+
+const GUARD: u8 = 0xA5;
+
+/// The library's register, between guard bytes, and the peer's.
+pub struct Pair {
+    wide: Vec<u8>,
+    start: usize,
+    pub peer: Vec<u8>,
+}
+
+impl Pair {
+    /// Both sides begin alike. `before` guard bytes stand before the library's register.
+    pub fn new(register: &[u8], before: usize) -> Pair {
+        let mut wide = vec![GUARD; before];
+        wide.extend_from_slice(register);
+        wide.extend([GUARD; 64]);
+        Pair { wide, start: before, peer: register.to_vec() }
+    }
+
+    fn library(&mut self) -> &mut [u8] {
+        &mut self.wide[self.start..self.start + self.peer.len()]
+    }
+
+    /// Makes the call on both sides: the reply that both give, or what differs.
+    pub fn call(&mut self, call: &Call) -> Result<Reply, String> {
+        let library = call.make(self.library());
+        let peer = peer_reply(&mut self.peer, call);
+        if library != peer {
+            return Err(format!("the library answers {library:?}\nthe peer answers    {peer:?}"));
+        }
+        self.compare_bytes()?;
+        self.compare_journals(call.place())?;
+        Ok(library)
+    }
+
+    fn compare_bytes(&mut self) -> Result<(), String> {
+        let end = self.start + self.peer.len();
+        if self.wide[..self.start].iter().any(|&byte| byte != GUARD) {
+            return Err("the library wrote before the register".into());
+        }
+        if self.wide[end..].iter().any(|&byte| byte != GUARD) {
+            return Err("the library wrote past the register".into());
+        }
+        let library = &self.wide[self.start..end];
+        if library == self.peer {
+            return Ok(());
+        }
+        let at = library.iter().zip(&self.peer).position(|(a, b)| a != b).expect("a byte differs");
+        let (place, offset) = (at / AREA_BYTES, at % AREA_BYTES);
+        let (mine, other) = (library[at], self.peer[at]);
+        Err(format!("byte {offset} of place {place} is {mine} in the library's register and {other} in the peer's"))
+    }
+
+    fn compare_journals(&mut self, place: u16) -> Result<(), String> {
+        let peer = peer::journal(&self.peer, place);
+        let library = necktureen::journal(&self.wide[self.start..self.start + self.peer.len()], place);
+        if library == peer {
+            return Ok(());
+        }
+        Err(format!("the library's journal has {} bytes, the peer's {}", library.len(), peer.len()))
+    }
+}
+
+pub fn peer_reply(register: &mut [u8], call: &Call) -> Reply {
+    use peer::{enrol, report, submit, withdraw};
+    match *call {
+        Call::Enrol { place, dials, capacity } => Reply::Answer(enrol(register, place, dials, capacity)),
+        Call::Submit { place, read } => Reply::Answer(submit(register, place, read)),
+        Call::Withdraw { place, day, value } => Reply::Answer(withdraw(register, place, day, value)),
+        Call::Report { place } => Reply::Report(report(register, place)),
+        other => panic!("the peer has no call {other}"),
+    }
+}
+
+/// A register to start from and the calls made on it.
+#[derive(Clone)]
+pub struct List {
+    pub start: Vec<u8>,
+    pub calls: Vec<Call>,
+}
+
+impl List {
+    /// Where the two sides first differ, and how.
+    fn difference(&self) -> Option<(usize, String)> {
+        let mut pair = Pair::new(&self.start, 64);
+        for (position, call) in self.calls.iter().enumerate() {
+            if let Err(difference) = pair.call(call) {
+                return Some((position, difference));
+            }
+        }
+        None
+    }
+
+    /// Takes away calls, areas and entries that the difference does without.
+    fn shorten(&mut self) {
+        let start = self.start.clone();
+        self.calls =
+            shortened(&self.calls, |calls| List { start: start.clone(), calls: calls.to_vec() }.difference().is_some());
+        self.empty_areas();
+        self.drop_entries();
+    }
+
+    fn empty_areas(&mut self) {
+        for at in 0..self.start.len() / AREA_BYTES {
+            let mut emptier = self.clone();
+            emptier.start[AREA_BYTES * at..][..AREA_BYTES].fill(0);
+            if emptier.difference().is_some() {
+                *self = emptier;
+            }
+        }
+    }
+
+    fn drop_entries(&mut self) {
+        for at in 0..self.start.len() / AREA_BYTES {
+            // From the last to the first, so that those still to be tried stay where they are.
+            for entry in (6..AREA_BYTES - 10).step_by(10).rev() {
+                let mut emptier = self.clone();
+                let area = &mut emptier.start[AREA_BYTES * at..][..AREA_BYTES];
+                area.copy_within(entry + 10.., entry);
+                area[AREA_BYTES - 10..].fill(0);
+                if emptier.start != self.start && emptier.difference().is_some() {
+                    *self = emptier;
+                }
+            }
+        }
+    }
+
+    fn describe(&self) -> String {
+        let mut text = String::new();
+        let _ = writeln!(text, "on a register of {} bytes, all zero{}", self.start.len(), self.describe_start());
+        for call in &self.calls {
+            let _ = writeln!(text, "  {call}");
+        }
+        let sheet: Vec<u8> = self.calls.iter().filter_map(Call::sheet_entry).flat_map(|entry| entry.to_vec()).collect();
+        let _ = writeln!(text, "as a day sheet: {}", hexadecimal(&sheet));
+        if let Some((_, difference)) = self.difference() {
+            let _ = writeln!(text, "at the last call {difference}");
+        }
+        text
+    }
+
+    fn describe_start(&self) -> String {
+        let mut text = String::new();
+        for (place, area) in self.start.chunks(AREA_BYTES).enumerate() {
+            if let Some(last) = area.iter().rposition(|&byte| byte != 0) {
+                let _ = write!(text, "\n  but place {place}: {}", hexadecimal(&area[..=last]));
+            }
+        }
+        text
+    }
+}
+
+pub fn fail(mut list: List, seed: u64) -> ! {
+    list.shorten();
+    panic!("library and peer differ, seed {seed}\n{}", list.describe());
+}
