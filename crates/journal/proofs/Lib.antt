@@ -3,6 +3,7 @@ pub mod Entries
 pub mod InOrder
 pub mod Steps
 pub mod Bits
+pub mod Blocks
 pub mod Clashes
 pub mod Runs
 pub mod Passes

@@ -95,12 +95,13 @@ kept-all head (e ∷ es) h =
 
 -- ---- the tally of a pass
 pub tally-is : (head : Head) (es : List Entry) (p : Pass) {keeps last : ℕ} → p ≡ passOf head es → areInOrder head es ≡ true → keeps ≡ cond (p .held) (p .run .count - 1) (p .run .count) → last ≡ valueOf (slotAt (standing es) 0) → _≡_ {A = Tally} (record {
+  head = head;
   counts = record { kept = keeps; standing = p .run .standing; flagged = p .run .flagged; first = p .first; newest = p .run .newest };
   last = last;
   day = p .run .day;
   latest = p .run .latest;
   entries = p .run .count;
   ended = p .ended;
-}) (tallyOf es)
+}) (tallyOf (record { head = head; entries = es }))
 unfolding passOf runOf tallyOf countsOf
 tally-is head es p same order keeps last = rw (keeps, last, same, kept-all head es order)

@@ -57,47 +57,51 @@ sound-case true false false t v h = no h (λ e. cc)
 module _ (day value : ℕ) (a : List ℕ) where
   pub zero-is : judged a ≡ judge.Zero → surveyed day value a ≡ survey.Zero
   unfolding judged surveyed
-  zero-is h = zero-case (eqb (length a) areaBytes) (allZero a) (isSound a) (tallyOf (journalOf a .entries)) (surveyOf day value (journalOf a)) h
+  zero-is h = zero-case (eqb (length a) areaBytes) (allZero a) (isSound a) (tallyOf (journalOf a)) (surveyOf day value (journalOf a)) h
 
   pub damaged-is : judged a ≡ judge.Damaged → surveyed day value a ≡ survey.Damaged
   unfolding judged surveyed
-  damaged-is h = damaged-case (eqb (length a) areaBytes) (allZero a) (isSound a) (tallyOf (journalOf a .entries)) (surveyOf day value (journalOf a)) h
+  damaged-is h = damaged-case (eqb (length a) areaBytes) (allZero a) (isSound a) (tallyOf (journalOf a)) (surveyOf day value (journalOf a)) h
 
-  pub sound-is : {t : Tally} → judged a ≡ judge.Sound t → (length a ≡ areaBytes) × (isSound a ≡ true) × (t ≡ tallyOf (journalOf a .entries)) × (surveyed day value a ≡ survey.Sound (surveyOf day value (journalOf a)))
+  pub sound-is : {t : Tally} → judged a ≡ judge.Sound t → (length a ≡ areaBytes) × (isSound a ≡ true) × (t ≡ tallyOf (journalOf a)) × (surveyed day value a ≡ survey.Sound (surveyOf day value (journalOf a)))
   unfolding judged surveyed
   sound-is h =
-      let c = sound-case (eqb (length a) areaBytes) (allZero a) (isSound a) (tallyOf (journalOf a .entries)) (surveyOf day value (journalOf a)) h in
+      let c = sound-case (eqb (length a) areaBytes) (allZero a) (isSound a) (tallyOf (journalOf a)) (surveyOf day value (journalOf a)) h in
       (eqb-true (length a) areaBytes (c .0), c .1, c .2, c .3)
 
 -- ---- a sound area by its head and its body
-module _ (a : List ℕ) (t : Tally) (sound : isSound a ≡ true) (tally : t ≡ tallyOf (journalOf a .entries)) where
-  pub entries-are : t .entries ≡ entryCount a
+module _ (a : List ℕ) (t : Tally) (sound : isSound a ≡ true) (tally : t ≡ tallyOf (journalOf a)) where
+  pub head-is : t .head ≡ headOf a
+  unfolding tallyOf journalOf
+  head-is = ap (λ (u : Tally). u .head) tally
+
+  entries-are : t .entries ≡ entryCount a
   unfolding tallyOf journalOf
   entries-are = ap (λ (u : Tally). u .entries) tally ∙ length-entries (entryCount a) (bodyOf a)
 
-  pub journal-is : journalOf a ≡ record { head = headOf a; entries = entriesTo (t .entries) (bodyOf a) }
+  journal-is : journalOf a ≡ record { head = t .head; entries = entriesTo (t .entries) (bodyOf a) }
   unfolding journalOf
-  journal-is = rw entries-are
+  journal-is = rw (entries-are, head-is)
 
-  pub body-sound : areSound (headOf a) (entriesTo (t .entries) (bodyOf a)) ≡ true
+  body-sound : areSound (t .head) (entriesTo (t .entries) (bodyOf a)) ≡ true
   unfolding isSound
   body-sound =
       let parts = both (isHead a) _ sound in
-      rw journal-is at (both (allZero (drop (entryStart (entryCount a)) (bodyOf a))) _ (parts .1) .1)
-
-  pub body-tally : t ≡ tallyOf (entriesTo (t .entries) (bodyOf a))
-  body-tally = tally ∙ ap (λ (j : Journal). tallyOf (j .entries)) journal-is
+      let whole = both (allZero (drop (entryStart (entryCount a)) (bodyOf a))) _ (parts .1) .1 in
+      ap (λ (h : Head). areSound h (entriesTo (t .entries) (bodyOf a))) head-is
+      ∙ ap (λ (j : Journal). areSound (headOf a) (j .entries)) (sym journal-is)
+      ∙ whole
 
   -- what is lent from the head's end on
-  module _ {head : Head} {start : ℕ} (size : length a ≡ areaBytes) (head-is : head ≡ headOf a) (starts : start ≡ headBytes (headOf a)) where
+  module _ {start : ℕ} (size : length a ≡ areaBytes) (starts : start ≡ headBytes (headOf a)) where
     few : entryStart (t .entries) ≤ length (bodyOf a)
     few = omega (arith, entries-are, count-at-most a, body-room a size)
 
-    pub lent-sound : (entryStart (t .entries) ≤ length (take (length a - start) (drop start a))) × (areSound head (entriesTo (t .entries) (take (length a - start) (drop start a))) ≡ true) × (t ≡ tallyOf (entriesTo (t .entries) (take (length a - start) (drop start a))))
-    lent-sound = rw (body-lent a start starts, head-is) (few, body-sound, body-tally)
+    pub lent-journal : journalOf a ≡ record { head = t .head; entries = entriesTo (t .entries) (take (length a - start) (drop start a)) }
+    lent-journal = rw (body-lent a start starts) journal-is
 
-    pub lent-journal : journalOf a ≡ record { head = head; entries = entriesTo (t .entries) (take (length a - start) (drop start a)) }
-    lent-journal = rw (body-lent a start starts, head-is) journal-is
+    pub lent-sound : (entryStart (t .entries) ≤ length (take (length a - start) (drop start a))) × (areSound (t .head) (entriesTo (t .entries) (take (length a - start) (drop start a))) ≡ true) × (t ≡ tallyOf (record { head = t .head; entries = entriesTo (t .entries) (take (length a - start) (drop start a)) }))
+    lent-sound = (rw (body-lent a start starts) few, rw (body-lent a start starts) body-sound, tally ∙ ap (λ (j : Journal). tallyOf j) lent-journal)
 
 -- ---- a body by the pass over it
 module _ {head : Head} {body : List ℕ} (p : Pass) (is : IsPassed head body p) where
@@ -113,9 +117,9 @@ module _ {head : Head} {body : List ℕ} (p : Pass) (is : IsPassed head body p) 
     unfolding judgedBody
     body-unended h = rw (ends-are h)
 
-    pub body-judged : allZero (drop (entryStart (p .run .count)) body) ≡ true → judgedBody head body ≡ judge.Sound (tallyOf (entriesTo (p .run .count) body))
+    pub body-judged : allZero (drop (entryStart (p .run .count)) body) ≡ true → judgedBody head body ≡ judge.Sound (tallyOf (record { head = head; entries = entriesTo (p .run .count) body }))
     unfolding judgedBody
-    body-judged h = rw (ends-are h, sym (is .sound) ∙ sound) (ap (λ (n : ℕ). judge.Sound (tallyOf (entriesTo n body))) (sym (is .count sound)))
+    body-judged h = rw (ends-are h, sym (is .sound) ∙ sound) (ap (λ (n : ℕ). judge.Sound (tallyOf (record { head = head; entries = entriesTo n body }))) (sym (is .count sound)))
 
     pub pass-room : entryStart (mostEntries head) ≤ length body → entryStart (p .run .count) ≤ length body
     pass-room room = omega (arith, is .count sound, count-from-most (mostEntries head) body)

@@ -39,6 +39,7 @@ pub struct Counts {
 }
 
 pub struct Tally {
+    pub head: Head,
     pub counts: Counts,
     // The value and the day of the last standing read, and 0 where none stands.
     pub last: u32,
@@ -79,14 +80,15 @@ fn kept_of(count: u8, held: bool) -> u8
 }
 
 // What is counted, once all entries are passed.
-fn tally_of(body: &[u8], pass: Pass) -> Tally
+fn tally_of(body: &[u8], head: Head, pass: Pass) -> Tally
     requires { ⌜ (entryStart (pass .run .count) ≤ length (now body)) × (pass .run ≡ runOf (entriesTo (pass .run .count) (now body))) ⌝ }
-    ensures { λ r. ⌜ ((head : Head) → IsPass head (now (body .entry)) pass → r ≡ tallyOf (entriesTo (pass .run .count) (now (body .entry)))) ⌝ }
+    ensures { λ r. ⌜ (IsPass head (now (body .entry)) pass → r ≡ tallyOf (record { head = head; entries = entriesTo (pass .run .count) (now (body .entry)) })) ⌝ }
 {
     let run = pass.run;
     let kept = kept_of(run.count, pass.held);
     let last = last_value(body, run);
     Tally {
+        head,
         counts: Counts {
             kept,
             standing: run.standing,
@@ -122,7 +124,7 @@ fn judge_body(body: &[u8], head: Head) -> Judged
     if !is_zero_from(body, Layout::ENTRY_BYTES * (run.count as usize)) {
         return Judged::Damaged;
     }
-    Judged::Sound(tally_of(body, pass))
+    Judged::Sound(tally_of(body, head, pass))
 }
 
 // An area of 512 bytes that are not all zero.

@@ -5,7 +5,6 @@ ghost use Prim.Native.Nat.{_≤_};
 ghost use lib.ListN.{length};
 ghost use Rattle.terms.specs.Entry.{recentOf};
 ghost use Rattle.register.specs.Area.{areaBytes};
-ghost use Rattle.register.specs.declared.head.Head.{Head};
 ghost use Rattle.register.specs.Entries.{entryStart};
 ghost use Rattle.journal.specs.Journal.{journalOf, entriesTo, standing, heldOf, newestAt};
 ghost use Rattle.journal.specs.Sound.{areSound, isSound};
@@ -18,7 +17,6 @@ use crate::judge::Tally;
 use crate::judge::judge_area;
 use crate::past::later;
 use crate::read::entry_at;
-use crate::read::head_at;
 use crate::step::Found;
 use crate::step::find;
 use crate::step::held_of;
@@ -65,7 +63,7 @@ fn found_over(body: &[u8], m: u8, day: u16, value: u32) -> Found
 // A day after the last standing and the latest withdrawn read is that of no entry.
 fn found_in(body: &[u8], t: Tally, day: u16, value: u32) -> Found
     requires { ⌜ entryStart (t .entries) ≤ length (now body) ⌝ }
-    ensures { λ r. ⌜ ((head : Head) → areSound head (entriesTo (t .entries) (now (body .entry))) ≡ true → t ≡ tallyOf (entriesTo (t .entries) (now (body .entry))) → r ≡ foundOf day value (entriesTo (t .entries) (now (body .entry)))) ⌝ }
+    ensures { λ r. ⌜ (areSound (t .head) (entriesTo (t .entries) (now (body .entry))) ≡ true → t ≡ tallyOf (record { head = t .head; entries = entriesTo (t .entries) (now (body .entry)) }) → r ≡ foundOf day value (entriesTo (t .entries) (now (body .entry)))) ⌝ }
 {
     if later(t.day, t.latest) < day {
         return start_found();
@@ -140,10 +138,11 @@ fn held_over(body: &[u8], m: u8) -> Slot
 }
 
 // The entries that follow a head.
-fn gather(body: &[u8], head: Head, t: Tally, day: u16, value: u32) -> Survey
-    requires { ⌜ (entryStart (t .entries) ≤ length (now body)) × (areSound head (entriesTo (t .entries) (now body)) ≡ true) × (t ≡ tallyOf (entriesTo (t .entries) (now body))) ⌝ }
-    ensures { λ r. ⌜ r ≡ surveyOf day value (record { head = head; entries = entriesTo (t .entries) (now (body .entry)) }) ⌝ }
+fn gather(body: &[u8], t: Tally, day: u16, value: u32) -> Survey
+    requires { ⌜ (entryStart (t .entries) ≤ length (now body)) × (areSound (t .head) (entriesTo (t .entries) (now body)) ≡ true) × (t ≡ tallyOf (record { head = t .head; entries = entriesTo (t .entries) (now body) })) ⌝ }
+    ensures { λ r. ⌜ r ≡ surveyOf day value (record { head = t .head; entries = entriesTo (t .entries) (now (body .entry)) }) ⌝ }
 {
+    let head = t.head;
     let counts = t.counts;
     let entries = t.entries;
     let recent = recent_over(body, entries, counts.standing, counts.newest);
@@ -161,12 +160,12 @@ fn gather(body: &[u8], head: Head, t: Tally, day: u16, value: u32) -> Survey
 }
 
 fn survey_sound(area: &[u8], t: Tally, day: u16, value: u32) -> Survey
-    requires { ⌜ (length (now area) ≡ areaBytes) × (isSound (now area) ≡ true) × (t ≡ tallyOf (journalOf (now area) .entries)) ⌝ }
+    requires { ⌜ (length (now area) ≡ areaBytes) × (isSound (now area) ≡ true) × (t ≡ tallyOf (journalOf (now area))) ⌝ }
     ensures { λ r. ⌜ r ≡ surveyOf day value (journalOf (now (area .entry))) ⌝ }
 {
-    let head = head_at(area);
+    let head = t.head;
     let start = head_bytes(head);
-    gather(&area[start..], head, t, day, value)
+    gather(&area[start..], t, day, value)
 }
 
 // All zero, damaged, or sound with what the calls need: for any bytes whatever.

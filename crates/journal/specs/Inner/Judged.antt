@@ -15,7 +15,7 @@ use Rattle.register.specs.Head.{mostEntries}
 use Rattle.journal.specs.declared.judge.Tally.{Tally}
 use Rattle.journal.specs.declared.judge.Judged.{Judged}
 use Rattle.journal.specs.declared.judge.Judged.the-variants.{Zero, Damaged, Sound}
-use Rattle.journal.specs.Journal.{journalOf, allZero, entriesTo, countFrom, standing, withdrawn}
+use Rattle.journal.specs.Journal.{Journal, journalOf, allZero, entriesTo, countFrom, standing, withdrawn}
 use Rattle.journal.specs.Sound.{isSound, areSound, any, isFinalRead}
 use Rattle.journal.specs.Inner.Loops.{dayOf}
 use Rattle.journal.specs.Inner.Past.{latestDay}
@@ -26,15 +26,16 @@ unfoldable pub valueOf : Slot → ℕ
 valueOf (Read e) = e .value
 valueOf Empty = 0
 
-unfoldable pub tallyOf : List Entry → Tally
-tallyOf es =
+unfoldable pub tallyOf : Journal → Tally
+tallyOf j =
     record {
-      counts = countsOf es;
-      last = valueOf (slotAt (standing es) 0);
-      day = dayOf (slotAt (standing es) 0);
-      latest = latestDay (withdrawn es);
-      entries = length es;
-      ended = any isFinalRead (standing es);
+      head = j .head;
+      counts = countsOf (j .entries);
+      last = valueOf (slotAt (standing (j .entries)) 0);
+      day = dayOf (slotAt (standing (j .entries)) 0);
+      latest = latestDay (withdrawn (j .entries));
+      entries = length (j .entries);
+      ended = any isFinalRead (standing (j .entries));
     }
 
 -- an area is all zero, sound or damaged; what is lent as one and is not 512 bytes long is no journal
@@ -42,12 +43,12 @@ unfoldable pub judged : List ℕ → Judged
 judged area =
     cond (not (eqb (length area) areaBytes))
     Damaged
-    (cond (allZero area) Zero (cond (isSound area) (Sound (tallyOf (journalOf area .entries))) Damaged))
+    (cond (allZero area) Zero (cond (isSound area) (Sound (tallyOf (journalOf area))) Damaged))
 
 -- a body that follows a head
 unfoldable pub judgedBody : Head → List ℕ → Judged
 judgedBody head body =
     let es : List Entry = entriesTo (countFrom (mostEntries head) 0 body) body in
     cond (allZero (drop (entryStart (countFrom (mostEntries head) 0 body)) body) && areSound head es)
-    (Sound (tallyOf es))
+    (Sound (tallyOf (record { head = head; entries = es })))
     Damaged

@@ -43,7 +43,7 @@ returns-3 c =
     let sound = zero .before .before .before in
     let pass = sound .before .before in
     let yes = not-false _ (sound .if1 .left) in
-    ap Sound (c .tally-of .ensures _ (pass .pass-over .ensures .pass yes))
+    ap Sound (c .tally-of .ensures (pass .pass-over .ensures .pass yes))
     ∙ sym (body-judged _ (pass .pass-over .ensures) yes (sym (zero .is-zero-from .ensures) ∙ not-false _ (c .before .if2 .left)))
 
 pub judge-body-spec : {M : Type 1} → statement M

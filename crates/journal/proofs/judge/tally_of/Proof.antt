@@ -17,8 +17,8 @@ unfolding areSound
 returns c =
     let kept = c .before in
     let start = kept .before .before .before in
-    λ head is.
-    tally-is head _ (start .args .pass) (is .same) (both (areInOrder head _) _ (is .sound) .0) (kept .kept-of .ensures) (c .last-value .ensures)
+    λ is.
+    tally-is (start .args .head) _ (start .args .pass) (is .same) (both (areInOrder (start .args .head) _) _ (is .sound) .0) (kept .kept-of .ensures) (c .last-value .ensures)
 
 pub tally-of-spec : {M : Type 1} → statement M
 tally-of-spec = tie.close (tie.spec kept-of-requires last-value-requires returns)

@@ -24,13 +24,13 @@ returns c =
     let t = start .args .t in
     let day = start .args .day in
     let days = later-both (t .day) (t .latest) day (rw (late .later .ensures) at (c .before .if1 .taken)) in
-    λ head sound tally.
+    λ sound tally.
     c .start-found .ensures day (start .args .value)
     ∙ nothing-found
     day
     (start .args .value)
     _
-    (days-rise head _ (both (areInOrder head _) _ sound .0))
+    (days-rise (t .head) _ (both (areInOrder (t .head) _) _ sound .0))
     (rw (ap (λ (u : Tally). u .day) tally) at (days .0))
     (rw (ap (λ (u : Tally). u .latest) tally) at (days .1))
 
@@ -38,7 +38,7 @@ found-over-requires : tie.Need-found-over-requires
 found-over-requires c κs = search needs
 
 returns-2 : tie.Need-returns-2
-returns-2 c = λ head sound tally. c .found-over .ensures
+returns-2 c = λ sound tally. c .found-over .ensures
 
 pub found-in-spec : {M : Type 1} → statement M
 found-in-spec =

@@ -13,7 +13,7 @@ use Rattle.journal.proofs.survey.gather.Tie as tie
 recent-over-requires : tie.Need-recent-over-requires
 unfolding tallyOf countsOf
 recent-over-requires c κs =
-    let pre = c .before .before .pre in
+    let pre = c .before .before .before .pre in
     (pre .0, ap (λ (u : Tally). u .counts .standing) (pre .2), ap (λ (u : Tally). u .counts .newest) (pre .2))
 
 held-over-requires : tie.Need-held-over-requires
@@ -27,12 +27,12 @@ unfolding surveyOf tallyOf
 returns c =
     let held = c .before in
     let recent = held .before in
-    let start = recent .before .before .before in
+    let start = recent .before .before .before .before in
     let tally = start .pre .2 in
     rw (
       recent .recent-over .ensures,
       held .held-over .ensures,
-      c .found-in .ensures (start .args .head) (start .pre .1) tally,
+      c .found-in .ensures (start .pre .1) tally,
       length-entries,
       ← ap (λ (u : Tally). u .counts) tally,
       ← ap (λ (u : Tally). u .ended) tally,

@@ -9,8 +9,8 @@ use lib.Dec.{eqb}
 use lib.ListN.{length, getD, drop, drop-of-length-le}
 use lib.Seq.{drop-cons}
 use Rattle.journal.specs.Journal.{allZero}
-use Rattle.journal.proofs.zeros.is_zero_from.Statement.{statement}
-use Rattle.journal.proofs.zeros.is_zero_from.Tie as tie
+use Rattle.journal.proofs.zeros.few_zero_from.Statement.{statement}
+use Rattle.journal.proofs.zeros.few_zero_from.Tie as tie
 
 abbrev Inv-loop : tie.InvT-loop
 Inv-loop bytes from zero₀ i₀ zero i = zero && allZero (drop i bytes) ≡ allZero (drop from bytes)
@@ -46,7 +46,7 @@ loop-again c =
 returns : tie.Need-returns Inv-loop μ-loop
 returns c = sym (none-left _ _ _ (c .loop-test .left)) ∙ c .before .loop .inv
 
-pub is-zero-from-spec : {M : Type 1} → statement M
-is-zero-from-spec =
+pub few-zero-from-spec : {M : Type 1} → statement M
+few-zero-from-spec =
     tie.close
     (tie.spec Inv-loop μ-loop loop-holds shared-slice-read-zero add-i loop-less loop-again returns)
