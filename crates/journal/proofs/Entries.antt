@@ -1,10 +1,11 @@
 -- What the loops over a body's entries share: one entry more, and how many there are.
-use mathlib.Core.Path.{_≡_, refl, ap}
+use mathlib.Core.Path.{_≡_, refl, ap, sym, _∙_}
 use mathlib.Core.Bool.{Bool, true, false, _&&_, _||_, cond}
 use mathlib.Core.List.{List, [], _∷_}
-use Prim.Native.Nat.{ℕ, zero, suc, _+_, _≤_}
+use Prim.Native.Nat.{ℕ, zero, suc, _+_, _-_, _≤_, _<_}
 use native.Mathlib.Numerals.{add-one}
 use native.Mathlib.Omega.{arith}
+use borrow.Author.Tests.{ne-eqb}
 use lib.Dec.{eqb}
 use lib.ListN.{length}
 use Rattle.terms.specs.declared.entry.Entry.{Entry}
@@ -12,8 +13,9 @@ use Rattle.terms.specs.Entry.{keepIf, those}
 use Rattle.register.specs.Bytes.{byteAt}
 use Rattle.register.specs.Entries.{entryStart, entryAt}
 use Rattle.register.specs.Head.{headOf, mostEntries, bodyOf}
-use Rattle.journal.specs.Journal.{entriesTo, countFrom, entryCount}
+use Rattle.journal.specs.Journal.{entriesTo, countFrom, entryCount, standing}
 use Rattle.journal.specs.Sound.{any}
+use Rattle.journal.specs.Inner.Back.{EndsStanding}
 
 -- one entry more
 module _ (k : ℕ) (a : List ℕ) where
@@ -69,3 +71,50 @@ count-from-most most b = omega (arith, count-from-at-most most 0 b)
 pub count-at-most : (a : List ℕ) → entryCount a ≤ mostEntries (headOf a)
 unfolding entryCount
 count-at-most a = count-from-most (mostEntries (headOf a)) (bodyOf a)
+
+-- ---- the count, from an entry on
+module _ (most k : ℕ) (a : List ℕ) (h : k < most) where
+  count-step : countFrom (most - k) k a ≡ cond (eqb (byteAt a (entryStart k)) 0) k (countFrom (most - (k + 1)) (k + 1) a)
+  unfolding countFrom
+  count-step =
+      let e : most - k ≡ suc (most - (k + 1)) = omega arith in
+      rw (e, add-one)
+
+  pub count-ends : byteAt a (entryStart k) ≡ 0 → countFrom (most - k) k a ≡ k
+  count-ends z = rw (count-step, z)
+
+  pub count-on : (byteAt a (entryStart k) ≡ 0 → ⊥) → countFrom (most - k) k a ≡ countFrom (most - (k + 1)) (k + 1) a
+  count-on n = rw (count-step, ne-eqb (byteAt a (entryStart k)) 0 n)
+
+pub count-all : (most k : ℕ) (a : List ℕ) → most ≤ k → countFrom (most - k) k a ≡ k
+unfolding countFrom
+count-all most k a h =
+    let e : most - k ≡ 0 = omega arith in
+    rw e
+
+number-at-least : (b : Bool) {m n least : ℕ} → least ≤ m → least ≤ n → least ≤ cond b m n
+number-at-least true h g = h
+number-at-least false h g = g
+
+count-at-least : (left k : ℕ) (a : List ℕ) → k ≤ countFrom left k a
+unfolding countFrom
+count-at-least zero k a = omega arith
+count-at-least (suc left) k a =
+    let stops : k ≤ k = omega arith in
+    let goes-on : k ≤ countFrom left (suc k) a = omega (arith, count-at-least left (suc k) a) in
+    number-at-least (eqb (byteAt a (entryStart k)) 0) stops goes-on
+
+pub count-past : (most k : ℕ) (a : List ℕ) → countFrom (most - k) k a ≡ countFrom most 0 a → k ≤ countFrom most 0 a
+count-past most k a h = rw h at (count-at-least (most - k) k a)
+
+-- ---- the standing ones of some entries, by the last of them
+module _ (a : List ℕ) (m r : ℕ) (ends : EndsStanding a m r) where
+  pub none-left : r ≡ 0 → standing (entriesTo m a) ≡ []
+  unfolding entriesTo those
+  none-left e = sym (ends .same) ∙ rw e
+
+  pub one-left : (r ≡ 0 → ⊥) → standing (entriesTo m a) ≡ entryAt a (entryStart (r - 1)) ∷ standing (entriesTo (r - 1) a)
+  unfolding those
+  one-left some =
+      let e : r ≡ suc (r - 1) = omega (arith, some) in
+      sym (ends .same) ∙ rw (last-entry a e, ends .stands (r - 1) e)

@@ -1,6 +1,6 @@
 -- Whether one more entry keeps the order: each clause over the longer list is what the entry adds and the clause over the shorter.
 use mathlib.Core.Path.{_≡_, refl, ap}
-use mathlib.Core.Bool.{Bool, true, false, not, _&&_, _||_, and-assoc, and-comm, cond, and-true, and-false, and-eq-true-iff}
+use mathlib.Core.Bool.{Bool, true, false, not, _&&_, _||_, and-assoc, and-comm, cond, and-true, and-false}
 use mathlib.Core.List.{List, [], _∷_}
 use Prim.Native.Nat.{ℕ, _<_}
 use native.Mathlib.Omega.{arith}
@@ -15,8 +15,8 @@ use Rattle.terms.specs.Letter.{isOpening, isHoldable}
 use Rattle.journal.specs.Journal.{standing, slotIf, heldOf, isThere}
 use Rattle.journal.specs.Sound.{every, any, isRead, daysRise, opensRight, isFinalRead, hasOneFinal, isLater, opens, exists, mayBeHeld, isHeldRight, areInOrder}
 use Rattle.journal.specs.Inner.Follow.{isAfter, mayStand, mayFollow}
-use Rattle.journal.specs.Inner.Loops.{standsBy, followsBy, dayOf, orderOf}
-use Rattle.journal.proofs.Entries.{any-kept}
+use Rattle.journal.specs.Inner.Loops.{standsBy, followsBy, dayOf}
+use Rattle.journal.proofs.Bools.{both}
 
 -- ---- conjunctions
 and-left : (x y z : Bool) → x && (y && z) ≡ y && (x && z)
@@ -27,9 +27,6 @@ and-left false false z = refl
 absorb : (x y : Bool) → (x ≡ true → y ≡ true) → x && y ≡ x
 absorb true y h = h refl
 absorb false y h = refl
-
-both : (x y : Bool) → x && y ≡ true → (x ≡ true) × (y ≡ true)
-both x y = and-eq-true-iff x y .0
 
 -- ---- what an entry adds to the standing reads before it, if it stands, and if it is held
 abbrev noSecondFinal : Entry → List Entry → Bool
@@ -94,6 +91,11 @@ in-order : (head : Head) (es : List Entry) → areInOrder head es ≡ every (isR
 unfolding areInOrder
 in-order head es = simp and-assoc
 
+-- standing days rise
+pub days-rise : (head : Head) (es : List Entry) → areInOrder head es ≡ true → daysRise (standing es) ≡ true
+unfolding areInOrder
+days-rise head es h = both (daysRise (standing es)) _ (both (every (isRead head) es) _ h .1) .0
+
 combine : (r a s p t h w v : Bool) → (p ≡ true → w ≡ v) → (r && a) && ((s && p) && ((t && h) && w)) ≡ (r && (t && (s && v))) && (a && (p && h))
 combine r a s true t h w v q = rw (q refl) (simp (and-assoc, and-true, and-comm, and-left))
 combine r a s false t h w v q = simp (and-assoc, and-false)
@@ -126,7 +128,7 @@ choose false h x y q = refl
 chosen : (r t b h x y : Bool) → (b ≡ true → h ≡ false) → r && (t && ((not b || x) && (not h || y))) ≡ (r && t) && cond b x (not h || y)
 chosen r t b h x y q = rw (choose b h x y q, and-assoc)
 
-by-numbers : (head : Head) (e : Entry) (last held : Slot) (ended : Bool) → mayFollow head e last held ended ≡ followsBy head e (isThere last) (dayOf last) (isThere held) ended
+pub by-numbers : (head : Head) (e : Entry) (last held : Slot) (ended : Bool) → mayFollow head e last held ended ≡ followsBy head e (isThere last) (dayOf last) (isThere held) ended
 unfolding mayFollow mayStand isAfter followsBy standsBy isThere dayOf
 by-numbers head e (Read s) held ended =
     let one = not (isFinalRead e && ended) in
@@ -148,28 +150,3 @@ by-numbers head e Empty held ended =
     (opens head e && one)
     (isHoldable (e .letter) && (false && one))
     (stands-unheld e)
-
-there-kept : (b : Bool) (e : Entry) (ss : List Entry) → isThere (slotAt (keepIf b e ss) 0) ≡ b || isThere (slotAt ss 0)
-unfolding isThere slotAt
-there-kept true e ss = refl
-there-kept false e ss = refl
-
-day-kept : (b : Bool) (e : Entry) (ss : List Entry) → dayOf (slotAt (keepIf b e ss) 0) ≡ cond b (e .day) (dayOf (slotAt ss 0))
-unfolding dayOf slotAt
-day-kept true e ss = refl
-day-kept false e ss = refl
-
-held-there : (b : Bool) (e : Entry) → isThere (slotIf b e Empty) ≡ b
-unfolding isThere
-held-there true e = refl
-held-there false e = refl
-
-pub order-more : (head : Head) (e : Entry) (es : List Entry) → orderOf head (e ∷ es) ≡ record {
-  sound = followsBy head e (orderOf head es .stands) (orderOf head es .day) (orderOf head es .held) (orderOf head es .ended) && orderOf head es .sound;
-  stands = isStanding e || orderOf head es .stands;
-  day = cond (isStanding e) (e .day) (orderOf head es .day);
-  held = isHeld e;
-  ended = (isStanding e && isFinalRead e) || orderOf head es .ended;
-}
-unfolding orderOf those heldOf
-order-more head e es = simp (in-order-more, by-numbers, there-kept, day-kept, held-there, any-kept)

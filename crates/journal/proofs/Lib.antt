@@ -1,5 +1,12 @@
+pub mod Bools
 pub mod Entries
 pub mod InOrder
-pub mod Positions
 pub mod Steps
+pub mod Bits
+pub mod Blocks
+pub mod Clashes
+pub mod Runs
+pub mod Passes
+pub mod Newest
+pub mod Verdicts
 pub mod Numbers

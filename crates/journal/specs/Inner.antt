@@ -1,4 +1,12 @@
 -- What only proofs and inner contracts need: how the loops over a body go about it.
-pub mod Survey
-pub mod Loops
 pub mod Follow
+pub mod Loops
+pub mod Zeros
+pub mod Marks
+pub mod Past
+pub mod Run
+pub mod Plain
+pub mod Pass
+pub mod Back
+pub mod Survey
+pub mod Judged

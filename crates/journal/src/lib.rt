@@ -1,9 +1,15 @@
 // The journal: what an area's bytes mean, for any bytes whatever.
 mod apart;
+pub mod judge;
+pub mod limits;
+mod marks;
 mod order;
+pub mod pass;
+pub mod past;
 pub mod plate;
 mod read;
+pub mod run;
 pub mod slot;
-mod step;
+pub mod step;
 pub mod survey;
 pub mod zeros;

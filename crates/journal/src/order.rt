@@ -38,14 +38,13 @@ pub(crate) fn is_final(e: Entry) -> bool
 }
 
 // The ranges of an entry's fields; the limit is 10^n. Most entries pass every test, so that the early returns cost little.
-fn is_in_range(limit: u64, e: Entry) -> bool
+fn is_in_range(limit: u32, e: Entry) -> bool
     ensures { λ r. ⌜ ((head : Head) → limit ≡ tenTo (head .dials) → r ≡ isInRange head e) ⌝ }
 {
     if e.day == 0 {
         return false;
     }
-    let value = e.value as u64;
-    if limit <= value {
+    if limit <= e.value {
         return false;
     }
     if !is_known(e.letter) {
@@ -55,7 +54,7 @@ fn is_in_range(limit: u64, e: Entry) -> bool
         & ((e.flag <= 1) & (!is_opening(e.letter) | (e.indicator == Indicator::NOT_SET)))
 }
 
-fn is_read(limit: u64, e: Entry) -> bool
+fn is_read(limit: u32, e: Entry) -> bool
     ensures { λ r. ⌜ ((head : Head) → limit ≡ tenTo (head .dials) → r ≡ isRead head e) ⌝ }
 {
     if !(is_standing(e) | (is_withdrawn(e) | is_held(e))) {
@@ -76,7 +75,7 @@ fn may_stand(e: Entry, stands: bool, last: u16) -> bool
 
 // Most entries stand, and the clause about held reads does not concern them.
 pub(crate) fn may_follow(
-    limit: u64,
+    limit: u32,
     e: Entry,
     stands: bool,
     last: u16,

@@ -6,7 +6,6 @@ ghost use Rattle.register.specs.Area.{areaBytes};
 ghost use Rattle.register.specs.Bytes.{wordAt, longAt};
 ghost use Rattle.register.specs.Entries.{entryStart, entryAt};
 ghost use Rattle.register.specs.Head.{headOf};
-ghost use Rattle.journal.specs.Journal.{countFrom};
 use register::area::Layout;
 use register::head::Head;
 use terms::entry::Entry;
@@ -57,20 +56,4 @@ pub(crate) fn entry_at(body: &[u8], k: u8) -> Entry
         indicator: body[at + 8],
         flag: body[at + 9],
     }
-}
-
-// How many entries come before the first zero kind byte.
-pub(crate) fn entry_count(body: &[u8], most: u8) -> u8
-    requires { ⌜ entryStart most ≤ length (now body) ⌝ }
-    ensures { λ r. ⌜ r ≡ countFrom most 0 (now (body .entry)) ⌝ }
-{
-    let mut k: u8 = 0;
-    while k < most {
-        let at = Layout::ENTRY_BYTES * (k as usize);
-        if body[at] == 0 {
-            return k;
-        }
-        k += 1;
-    }
-    k
 }

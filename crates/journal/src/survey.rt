@@ -1,79 +1,32 @@
-// What the loops over an area gather for the calls.
+// What a call that changes a journal needs of it: what is counted, and the few entries that are wanted whole, which are read again.
 ghost use mathlib.Core.Path.{_≡_};
-ghost use mathlib.Core.Bool.{true, false};
-ghost use mathlib.Core.List.{[]};
-ghost use Prim.Native.Nat.{ℕ, _+_, _≤_};
+ghost use mathlib.Core.Bool.{true};
+ghost use Prim.Native.Nat.{_≤_};
 ghost use lib.ListN.{length};
-ghost use Rattle.arithmetic.specs.Powers.{tenTo};
-ghost use Rattle.register.specs.Area.{areaBytes};
-ghost use Rattle.terms.specs.declared.entry.Slot.the-variants.{Empty};
 ghost use Rattle.terms.specs.Entry.{recentOf};
-ghost use Rattle.register.specs.declared.head.Head.{Head};
-ghost use Rattle.register.specs.Entries.{entryStart, entryAt};
-ghost use Rattle.register.specs.Head.{headOf, mostEntries};
-ghost use Rattle.journal.specs.Journal.{entriesTo, allZero, standing, slotIf, heldOf};
-ghost use Rattle.journal.specs.Sound.{isHead};
-ghost use Rattle.journal.specs.Inner.Survey.{foundOf, surveyed, surveyedBody, Surveys};
-ghost use Rattle.journal.specs.Inner.Loops.{orderOf, placesOf};
-use crate::apart::is_apart;
-use crate::plate::is_plate;
+ghost use Rattle.register.specs.Area.{areaBytes};
+ghost use Rattle.register.specs.Entries.{entryStart};
+ghost use Rattle.journal.specs.Journal.{journalOf, entriesTo, standing, heldOf, newestAt};
+ghost use Rattle.journal.specs.Sound.{areSound, isSound};
+ghost use Rattle.journal.specs.Inner.Back.{EndsStanding};
+ghost use Rattle.journal.specs.Inner.Judged.{tallyOf};
+ghost use Rattle.journal.specs.Inner.Survey.{foundOf, surveyOf, Surveys};
+use crate::judge::Counts;
+use crate::judge::Judged;
+use crate::judge::Tally;
+use crate::judge::judge_area;
+use crate::past::later;
 use crate::read::entry_at;
-use crate::read::entry_count;
-use crate::read::head_at;
-use crate::step::advance_order;
+use crate::step::Found;
 use crate::step::find;
 use crate::step::held_of;
-use crate::step::place;
-use crate::zeros::is_zero_from;
-use arithmetic::powers::power;
+use crate::step::start_found;
 use register::area::Layout;
 use register::head::Head;
 use register::head::head_bytes;
-use register::head::most_entries;
 use terms::entry::Kind;
 use terms::entry::Recent;
 use terms::entry::Slot;
-
-// Counts over a journal's entries.
-pub struct Counts {
-    // Standing and withdrawn entries.
-    pub kept: u8,
-    pub standing: u8,
-    pub flagged: u8,
-    // The value of the first standing read.
-    pub first: u32,
-    // How many entries come before the last standing one.
-    pub newest: u8,
-}
-
-// What stands or is withdrawn of a day and a value that a call names.
-pub struct Found {
-    pub sameday: Slot,
-    pub standing: bool,
-    pub withdrawn: bool,
-}
-
-// The loops carry little, which keeps them fast, and the few entries that are wanted whole are read again after them.
-
-// Of some of the entries: their order, and what the next entry's depends on.
-pub struct Order {
-    // Sound but for what compares standing and withdrawn reads.
-    pub sound: bool,
-    // A read stands, and the day of the last one.
-    pub stands: bool,
-    pub day: u16,
-    // The newest entry is held.
-    pub held: bool,
-    // An F stands.
-    pub ended: bool,
-}
-
-// Of some of the entries: their counts, and how many come before the second last and the third last standing one.
-pub struct Places {
-    pub counts: Counts,
-    pub second: u8,
-    pub third: u8,
-}
 
 pub struct Survey {
     pub head: Head,
@@ -92,74 +45,6 @@ pub enum Surveyed {
     Sound(Survey),
 }
 
-fn start_order() -> Order
-    ensures { λ r. ⌜ ((head : Head) → r ≡ orderOf head []) ⌝ }
-{
-    Order {
-        sound: true,
-        stands: false,
-        day: 0,
-        held: false,
-        ended: false,
-    }
-}
-
-// The order of the first m entries.
-fn order_over(body: &[u8], m: u8, limit: u64) -> Order
-    requires { ⌜ entryStart m ≤ length (now body) ⌝ }
-    ensures { λ r. ⌜ ((head : Head) → limit ≡ tenTo (head .dials) → r ≡ orderOf head (entriesTo m (now (body .entry)))) ⌝ }
-{
-    let mut order = start_order();
-    let mut k: u8 = 0;
-    while k < m {
-        let e = entry_at(body, k);
-        order = advance_order(order, limit, e);
-        k += 1;
-    }
-    order
-}
-
-fn start_places() -> Places
-    ensures { λ r. ⌜ r ≡ placesOf [] ⌝ }
-{
-    Places {
-        counts: Counts {
-            kept: 0,
-            standing: 0,
-            flagged: 0,
-            first: 0,
-            newest: 0,
-        },
-        second: 0,
-        third: 0,
-    }
-}
-
-// The counts and places of the first m entries.
-fn places_over(body: &[u8], m: u8) -> Places
-    requires { ⌜ entryStart m ≤ length (now body) ⌝ }
-    ensures { λ r. ⌜ r ≡ placesOf (entriesTo m (now (body .entry))) ⌝ }
-{
-    let mut places = start_places();
-    let mut k: u8 = 0;
-    while k < m {
-        let e = entry_at(body, k);
-        places = place(places, k, e);
-        k += 1;
-    }
-    places
-}
-
-fn start_found() -> Found
-    ensures { λ r. ⌜ ((day value : ℕ) → r ≡ foundOf day value []) ⌝ }
-{
-    Found {
-        sameday: Slot::Empty,
-        standing: false,
-        withdrawn: false,
-    }
-}
-
 // What the first m entries have of a day and a value.
 fn found_over(body: &[u8], m: u8, day: u16, value: u32) -> Found
     requires { ⌜ entryStart m ≤ length (now body) ⌝ }
@@ -175,26 +60,64 @@ fn found_over(body: &[u8], m: u8, day: u16, value: u32) -> Found
     found
 }
 
-// The entry after k others, if it exists.
-fn slot_from(body: &[u8], exists: bool, k: u8) -> Slot
-    requires { ⌜ (exists ≡ true → entryStart (k + 1) ≤ length (now body)) ⌝ }
-    ensures { λ r. ⌜ r ≡ slotIf exists (entryAt (now (body .entry)) (entryStart k)) Empty ⌝ }
+// A day after the last standing and the latest withdrawn read is that of no entry.
+fn found_in(body: &[u8], t: Tally, day: u16, value: u32) -> Found
+    requires { ⌜ entryStart (t .entries) ≤ length (now body) ⌝ }
+    ensures { λ r. ⌜ (areSound (t .head) (entriesTo (t .entries) (now (body .entry))) ≡ true → t ≡ tallyOf (record { head = t .head; entries = entriesTo (t .entries) (now (body .entry)) }) → r ≡ foundOf day value (entriesTo (t .entries) (now (body .entry)))) ⌝ }
 {
-    if exists {
-        return Slot::Read(entry_at(body, k));
+    if later(t.day, t.latest) < day {
+        return start_found();
     }
-    Slot::Empty
+    found_over(body, t.entries, day, value)
 }
 
-// The last three standing reads of the first m entries, from their places.
-fn recent_from(body: &[u8], m: u8, places: Places) -> Recent
-    requires { ⌜ (entryStart m ≤ length (now body)) × (places ≡ placesOf (entriesTo m (now body))) ⌝ }
+// How many of the first m entries are left when those after the last standing one are taken off.
+fn back(body: &[u8], m: u8) -> u8
+    requires { ⌜ entryStart m ≤ length (now body) ⌝ }
+    ensures { λ r. ⌜ EndsStanding (now (body .entry)) m r ⌝ }
+{
+    let mut k = m;
+    while 0 < k {
+        let at = Layout::ENTRY_BYTES * ((k - 1) as usize);
+        if body[at] == Kind::STANDING {
+            return k;
+        }
+        k -= 1;
+    }
+    k
+}
+
+// The second last and the third last standing reads are found by stepping back from the last.
+fn recent_over(body: &[u8], m: u8, stands: u8, newest: u8) -> Recent
+    requires { ⌜ (entryStart m ≤ length (now body)) × (stands ≡ length (standing (entriesTo m (now body)))) × (newest ≡ newestAt (entriesTo m (now body))) ⌝ }
     ensures { λ r. ⌜ r ≡ recentOf (standing (entriesTo m (now (body .entry)))) ⌝ }
 {
-    let counts = places.counts;
-    let last = slot_from(body, 0 < counts.standing, counts.newest);
-    let second = slot_from(body, 1 < counts.standing, places.second);
-    let third = slot_from(body, 2 < counts.standing, places.third);
+    if stands == 0 {
+        return Recent {
+            last: Slot::Empty,
+            second: Slot::Empty,
+            third: Slot::Empty,
+        };
+    }
+    let last = Slot::Read(entry_at(body, newest));
+    let b = back(body, newest);
+    if b == 0 {
+        return Recent {
+            last,
+            second: Slot::Empty,
+            third: Slot::Empty,
+        };
+    }
+    let second = Slot::Read(entry_at(body, b - 1));
+    let c = back(body, b - 1);
+    if c == 0 {
+        return Recent {
+            last,
+            second,
+            third: Slot::Empty,
+        };
+    }
+    let third = Slot::Read(entry_at(body, c - 1));
     Recent {
         last,
         second,
@@ -214,68 +137,44 @@ fn held_over(body: &[u8], m: u8) -> Slot
     held_of(e)
 }
 
-fn is_head(area: &[u8], head: Head) -> bool
-    requires { ⌜ (length (now area) ≡ areaBytes) × (head ≡ headOf (now area)) ⌝ }
-    ensures { λ r. ⌜ r ≡ isHead (now (area .entry)) ⌝ }
-{
-    (area[0] == Kind::METER) & is_plate(head)
-}
-
 // The entries that follow a head.
-fn survey_body(body: &[u8], head: Head, day: u16, value: u32) -> Surveyed
-    requires { ⌜ entryStart (mostEntries head) ≤ length (now body) ⌝ }
-    ensures { λ r. ⌜ r ≡ surveyedBody day value head (now (body .entry)) ⌝ }
+fn gather(body: &[u8], t: Tally, day: u16, value: u32) -> Survey
+    requires { ⌜ (entryStart (t .entries) ≤ length (now body)) × (areSound (t .head) (entriesTo (t .entries) (now body)) ≡ true) × (t ≡ tallyOf (record { head = t .head; entries = entriesTo (t .entries) (now body) })) ⌝ }
+    ensures { λ r. ⌜ r ≡ surveyOf day value (record { head = t .head; entries = entriesTo (t .entries) (now (body .entry)) }) ⌝ }
 {
-    let entries = entry_count(body, most_entries(head));
-    if !is_zero_from(body, Layout::ENTRY_BYTES * (entries as usize)) {
-        return Surveyed::Damaged;
-    }
-    let order = order_over(body, entries, power(head.dials));
-    if !(order.sound & is_apart(body, entries)) {
-        return Surveyed::Damaged;
-    }
-    let positions = places_over(body, entries);
-    let counts = positions.counts;
-    let recent = recent_from(body, entries, positions);
+    let head = t.head;
+    let counts = t.counts;
+    let entries = t.entries;
+    let recent = recent_over(body, entries, counts.standing, counts.newest);
     let held = held_over(body, entries);
-    let found = found_over(body, entries, day, value);
-    Surveyed::Sound(Survey {
+    let found = found_in(body, t, day, value);
+    Survey {
         head,
         entries,
         counts,
         recent,
         held,
-        ended: order.ended,
+        ended: t.ended,
         found,
-    })
-}
-
-// An area of 512 bytes that are not all zero.
-fn survey_journal(area: &[u8], day: u16, value: u32) -> Surveyed
-    requires { ⌜ (length (now area) ≡ areaBytes) × (allZero (now area) ≡ false) ⌝ }
-    ensures { λ r. ⌜ r ≡ surveyed day value (now (area .entry)) ⌝ }
-{
-    let head = head_at(area);
-    if !is_head(area, head) {
-        return Surveyed::Damaged;
     }
-    let start = head_bytes(head);
-    survey_body(&area[start..], head, day, value)
 }
 
-// All zero, damaged, or sound with what the calls need: for any bytes whatever. An area whose first byte is not zero need not be looked
-// through for zeros.
+fn survey_sound(area: &[u8], t: Tally, day: u16, value: u32) -> Survey
+    requires { ⌜ (length (now area) ≡ areaBytes) × (isSound (now area) ≡ true) × (t ≡ tallyOf (journalOf (now area))) ⌝ }
+    ensures { λ r. ⌜ r ≡ surveyOf day value (journalOf (now (area .entry))) ⌝ }
+{
+    let head = t.head;
+    let start = head_bytes(head);
+    gather(&area[start..], t, day, value)
+}
+
+// All zero, damaged, or sound with what the calls need: for any bytes whatever.
 pub fn survey_area(area: &[u8], day: u16, value: u32) -> Surveyed
     ensures { λ r. ⌜ Surveys day value (now (area .entry)) r ⌝ }
 {
-    if area.len() != Layout::AREA_BYTES {
-        return Surveyed::Damaged;
+    match judge_area(area) {
+        Judged::Zero => Surveyed::Zero,
+        Judged::Damaged => Surveyed::Damaged,
+        Judged::Sound(t) => Surveyed::Sound(survey_sound(area, t, day, value)),
     }
-    if area[0] != 0 {
-        return survey_journal(area, day, value);
-    }
-    if is_zero_from(area, 0) {
-        return Surveyed::Zero;
-    }
-    Surveyed::Damaged
 }

@@ -1,10 +1,49 @@
 // Bytes that are zero to the end.
 ghost use mathlib.Core.Path.{_≡_};
-ghost use lib.ListN.{drop};
+ghost use Prim.Native.Nat.{_+_, _≤_};
+ghost use lib.ListN.{length, drop};
 ghost use Rattle.journal.specs.Journal.{allZero};
+ghost use Rattle.journal.specs.Inner.Zeros.{Zeros, Adds};
+use crate::read::long_at;
 
-// Every byte from a place on is zero.
-pub fn is_zero_from(bytes: &[u8], from: usize) -> bool
+// Two numbers whose bits are those of the bytes passed: two, so that the compiler may take sixteen bytes at a time.
+pub struct Lanes {
+    pub low: u64,
+    pub high: u64,
+}
+
+struct Block;
+
+impl Block {
+    const BYTES: usize = 64;
+}
+
+fn eight_at(bytes: &[u8], i: usize) -> u64
+    requires { ⌜ i + 8 ≤ length (now bytes) ⌝ }
+    ensures { λ r. ⌜ Zeros (now (bytes .entry)) i 8 r ⌝ }
+{
+    let low = long_at(bytes, i) as u64;
+    let high = long_at(bytes, i + 4) as u64;
+    low + 4294967296 * high
+}
+
+// The bits of 64 bytes more.
+fn block_at(lanes: Lanes, bytes: &[u8], i: usize) -> Lanes
+    requires { ⌜ i + 64 ≤ length (now bytes) ⌝ }
+    ensures { λ r. ⌜ Adds (now (bytes .entry)) i 64 lanes r ⌝ }
+{
+    let low = (eight_at(bytes, i) | eight_at(bytes, i + 16))
+        | (eight_at(bytes, i + 32) | eight_at(bytes, i + 48));
+    let high = (eight_at(bytes, i + 8) | eight_at(bytes, i + 24))
+        | (eight_at(bytes, i + 40) | eight_at(bytes, i + 56));
+    Lanes {
+        low: lanes.low | low,
+        high: lanes.high | high,
+    }
+}
+
+// The same for few bytes, one by one.
+fn few_zero_from(bytes: &[u8], from: usize) -> bool
     ensures { λ r. ⌜ r ≡ allZero (drop from (now (bytes .entry))) ⌝ }
 {
     let mut zero = true;
@@ -14,4 +53,32 @@ pub fn is_zero_from(bytes: &[u8], from: usize) -> bool
         i += 1;
     }
     zero
+}
+
+// Blocks from a byte on, up to the last 64 bytes, which come first: the last block may overlap them.
+fn blocks_zero_from(bytes: &[u8], from: usize, last: usize) -> bool
+    requires { ⌜ (from ≤ last) × (last + 64 ≡ length (now bytes)) ⌝ }
+    ensures { λ r. ⌜ r ≡ allZero (drop from (now (bytes .entry))) ⌝ }
+{
+    let mut lanes = block_at(Lanes { low: 0, high: 0 }, bytes, last);
+    let mut i = from;
+    while i < last {
+        lanes = block_at(lanes, bytes, i);
+        i += Block::BYTES;
+    }
+    (lanes.low | lanes.high) == 0
+}
+
+// Every byte from a place on is zero.
+pub fn is_zero_from(bytes: &[u8], from: usize) -> bool
+    ensures { λ r. ⌜ r ≡ allZero (drop from (now (bytes .entry))) ⌝ }
+{
+    if bytes.len() < Block::BYTES {
+        return few_zero_from(bytes, from);
+    }
+    let last = bytes.len() - Block::BYTES;
+    if last < from {
+        return few_zero_from(bytes, from);
+    }
+    blocks_zero_from(bytes, from, last)
 }

@@ -4,8 +4,8 @@ ghost use lib.ListN.{length};
 ghost use Rattle.register.specs.Area.{areaBytes};
 ghost use Rattle.calls.specs.Calls.{lengthIn, journalLength};
 ghost use Rattle.meter.specs.Part.{Part};
-use journal::survey::Surveyed;
-use journal::survey::survey_area;
+use journal::judge::Judged;
+use journal::judge::judge_area;
 use place::Located;
 use place::locate;
 use register::area::Layout;
@@ -16,12 +16,12 @@ fn length_in(area: &[u8]) -> usize
     requires { ⌜ length (now area) ≡ areaBytes ⌝ }
     ensures { λ r. ⌜ r ≡ lengthIn (now (area .entry)) ⌝ }
 {
-    match survey_area(area, 0, 0) {
-        Surveyed::Zero => 0,
-        Surveyed::Damaged => 0,
-        Surveyed::Sound(v) => {
-            let head = v.head;
-            offset_after(head, v.entries) as usize
+    match judge_area(area) {
+        Judged::Zero => 0,
+        Judged::Damaged => 0,
+        Judged::Sound(t) => {
+            let head = t.head;
+            offset_after(head, t.entries) as usize
         }
     }
 }

@@ -1,53 +1,49 @@
 // Report: how many reads stand, how many of them are flagged, and the total between the first and the last.
 ghost use mathlib.Core.Path.{_≡_};
-ghost use Prim.Native.Nat.{ℕ};
 ghost use lib.ListN.{length};
 ghost use Rattle.register.specs.Area.{areaBytes};
 ghost use Rattle.journal.specs.Journal.{Journal, standing};
-ghost use Rattle.journal.specs.Inner.Survey.{surveyOf};
+ghost use Rattle.journal.specs.Inner.Judged.{tallyOf};
 ghost use Rattle.calls.specs.Calls.{totalOf, reportIn, acted, done, step};
 use arithmetic::advance::advance;
 use calls::call::Call;
 use calls::call::Reply;
-use journal::survey::Survey;
-use journal::survey::Surveyed;
-use journal::survey::survey_area;
+use journal::judge::Judged;
+use journal::judge::Tally;
+use journal::judge::judge_area;
 use place::Located;
 use place::locate;
 use register::area::Layout;
 use terms::answer::Report;
 use terms::answer::refuse_report;
-use terms::entry::Slot;
 use terms::number::Number;
 
 // last − first + 10^n × flagged, 0 if none stands.
-fn total(v: Survey) -> i64
-    ensures { λ r. ⌜ ((day value : ℕ) (j : Journal) → v ≡ surveyOf day value j → r ≡ totalOf (j .head .dials) (standing (j .entries))) ⌝ }
+fn total(t: Tally) -> i64
+    ensures { λ r. ⌜ ((j : Journal) → t ≡ tallyOf j → r ≡ totalOf (j .head .dials) (standing (j .entries))) ⌝ }
 {
-    let head = v.head;
-    let recent = v.recent;
-    let counts = v.counts;
-    let last = recent.last;
-    match last {
-        Slot::Read(r0) => advance(head.dials, r0.value, counts.flagged, counts.first),
-        Slot::Empty => 0,
+    let head = t.head;
+    let counts = t.counts;
+    if counts.standing == 0 {
+        return 0;
     }
+    advance(head.dials, t.last, counts.flagged, counts.first)
 }
 
 fn report_area(area: &[u8]) -> Report
     requires { ⌜ length (now area) ≡ areaBytes ⌝ }
     ensures { λ r. ⌜ acted (Reply.Reported r) (now (area .entry)) ≡ reportIn (now (area .entry)) ⌝ }
 {
-    match survey_area(area, 0, 0) {
-        Surveyed::Zero => refuse_report(Number::NO_METER),
-        Surveyed::Damaged => refuse_report(Number::DAMAGED),
-        Surveyed::Sound(v) => {
-            let counts = v.counts;
+    match judge_area(area) {
+        Judged::Zero => refuse_report(Number::NO_METER),
+        Judged::Damaged => refuse_report(Number::DAMAGED),
+        Judged::Sound(t) => {
+            let counts = t.counts;
             Report {
                 number: Number::ACCEPTED,
                 standing: counts.standing as u16,
                 flagged: counts.flagged as u16,
-                total: total(v),
+                total: total(t),
             }
         }
     }

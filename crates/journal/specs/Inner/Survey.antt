@@ -1,25 +1,22 @@
 -- What the loops over an area gather for the calls: each field as the journal's entries have it.
 use mathlib.Core.Path.{_≡_}
-use mathlib.Core.Bool.{not, _&&_, cond}
+use mathlib.Core.Bool.{not, cond}
 use mathlib.Core.List.{List}
 use Prim.Native.Nat.{ℕ}
 use lib.Dec.{eqb}
-use lib.ListN.{length, drop}
+use lib.ListN.{length}
 use Rattle.terms.specs.declared.entry.Entry.{Entry}
 use Rattle.terms.specs.Entry.{those, recentOf}
 use Rattle.terms.specs.Rule.{firstBroken}
 use Rattle.register.specs.Area.{areaBytes}
-use Rattle.register.specs.declared.head.Head.{Head}
-use Rattle.register.specs.Entries.{entryStart}
-use Rattle.register.specs.Head.{mostEntries}
-use Rattle.journal.specs.declared.survey.Counts.{Counts}
-use Rattle.journal.specs.declared.survey.Found.{Found}
+use Rattle.journal.specs.declared.judge.Counts.{Counts}
+use Rattle.journal.specs.declared.step.Found.{Found}
 use Rattle.journal.specs.declared.survey.Survey.{Survey}
 use Rattle.journal.specs.declared.survey.Surveyed.{Surveyed}
 use Rattle.journal.specs.declared.survey.Surveyed.the-variants.{Zero, Damaged, Sound}
-use Rattle.journal.specs.Journal.{Journal, journalOf, allZero, entriesTo, countFrom, standing, withdrawn, kept, heldOf, onDay, isFlagged, firstValue, newestAt}
+use Rattle.journal.specs.Journal.{Journal, journalOf, allZero, standing, withdrawn, kept, heldOf, onDay, isFlagged, firstValue, newestAt}
 use Rattle.journal.specs.Numbers.{areaRules, surveyedNumber}
-use Rattle.journal.specs.Sound.{isSound, areSound, any, hasRead, isFinalRead}
+use Rattle.journal.specs.Sound.{isSound, any, hasRead, isFinalRead}
 
 -- ---- the counts
 unfoldable pub countsOf : List Entry → Counts
@@ -62,14 +59,6 @@ surveyed day value area =
     (cond (allZero area)
     Zero
     (cond (isSound area) (Sound (surveyOf day value (journalOf area))) Damaged))
-
--- a body that follows a head
-unfoldable pub surveyedBody : ℕ → ℕ → Head → List ℕ → Surveyed
-surveyedBody day value head body =
-    let count : ℕ = countFrom (mostEntries head) 0 body in
-    cond (allZero (drop (entryStart count) body) && areSound head (entriesTo count body))
-    (Sound (surveyOf day value (record { head = head; entries = entriesTo count body })))
-    Damaged
 
 -- what a survey answers: what was found, and with it the number of the area
 pub record Surveys (day value : ℕ) (area : List ℕ) (found : Surveyed) : Type 0 where

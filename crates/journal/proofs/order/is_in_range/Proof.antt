@@ -9,9 +9,6 @@ returns : tie.Need-returns
 unfolding isInRange holds takes
 returns c = λ head l. rw (eq-eqb _ _ (c .if1 .taken))
 
-cast-value : tie.Need-cast-value
-cast-value c = search needs
-
 returns-2 : tie.Need-returns-2
 unfolding isInRange holds takes
 returns-2 c = λ head l. rw (ne-eqb _ _ (c .before .before .if1 .left), ← l, le-ltb _ _ (c .if2 .taken))
@@ -55,7 +52,6 @@ is-in-range-spec =
     tie.close
     (tie.spec
     returns
-    cast-value
     returns-2
     is-known-requires
     returns-3

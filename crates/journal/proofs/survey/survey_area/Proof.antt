@@ -1,59 +1,52 @@
--- An area that does not start with zero is not all zero, and `survey_journal` decides it; one that does has no head.
-use mathlib.Core.Path.{_≡_, refl}
-use mathlib.Core.Bool.{false}
-use mathlib.Core.List.{List, [], _∷_}
-use Prim.Native.Nat.{ℕ}
-use borrow.Author.Tests.{ne-eqb}
-use lib.ListN.{getD}
-use Rattle.journal.specs.Journal.{allZero}
-use Rattle.journal.specs.Sound.{isHead, isSound}
-use Rattle.journal.specs.Inner.Survey.{surveyed}
+-- What the area is judged is what it is surveyed as.
+use mathlib.Core.Path.{_≡_, ap, sym, _∙_}
+use Rattle.journal.specs.declared.survey.Surveyed.the-variants.{Sound}
 use Rattle.journal.proofs.Numbers.{surveys}
+use Rattle.journal.proofs.Verdicts.{zero-is, damaged-is, sound-is}
 use borrow.Author.Needs.{needs}
 use Rattle.journal.proofs.survey.survey_area.Statement.{statement}
 use Rattle.journal.proofs.survey.survey_area.Tie as tie
 
-first-not-zero : (area : List ℕ) → (getD area 0 0 ≡ 0 → ⊥) → allZero area ≡ false
-unfolding allZero
-first-not-zero [] h = absurd (h refl)
-first-not-zero (b ∷ bs) h = rw (ne-eqb b 0 h)
+judge-area-requires : tie.Need-judge-area-requires
+judge-area-requires c κs = search needs
 
-first-zero : (area : List ℕ) → getD area 0 0 ≡ 0 → isSound area ≡ false
-unfolding isSound isHead
-first-zero area h = rw h
+enum-told : tie.Need-enum-told
+enum-told c = search needs
+
+enum-told-2 : tie.Need-enum-told-2
+enum-told-2 c = search needs
+
+enum-known-t : tie.Need-enum-known-t
+enum-known-t c = search needs
+
+survey-sound-requires : tie.Need-survey-sound-requires
+survey-sound-requires c κs =
+    let found = c .before in
+    let judge = found .before .before in
+    let sound = sound-is 0 0 _ (sym (judge .judge-area .ensures) ∙ found .t .given .1) in
+    (sound .0, sound .1, sound .2)
 
 returns : tie.Need-returns
-unfolding surveyed
-returns c = surveys _ _ _ (rw (ne-eqb _ _ (c .if1 .taken)))
-
-shared-slice-read-if2 : tie.Need-shared-slice-read-if2
-shared-slice-read-if2 c = search needs
-
-survey-journal-requires : tie.Need-survey-journal-requires
-survey-journal-requires c κs = (c .before .before .if1 .left, first-not-zero _ (c .if2 .taken))
+returns c = let judge = c .before .before in surveys _ _ _ (sym (zero-is _ _ _ (sym (judge .judge-area .ensures) ∙ c .enum-told .given .1)))
 
 returns-2 : tie.Need-returns-2
-returns-2 c = surveys _ _ _ (c .survey-journal .ensures)
-
-is-zero-from-requires : tie.Need-is-zero-from-requires
-is-zero-from-requires c κs = search needs
+returns-2 c = let judge = c .before .before in surveys _ _ _ (sym (damaged-is _ _ _ (sym (judge .judge-area .ensures) ∙ c .enum-told2 .given .1)))
 
 returns-3 : tie.Need-returns-3
-unfolding surveyed
-returns-3 c = surveys _ _ _ (rw (c .before .before .before .before .if1 .left, ← c .before .is-zero-from .ensures, c .if3 .taken))
-
-returns-4 : tie.Need-returns-4
-unfolding surveyed
-returns-4 c = surveys _ _ _ (rw (c .before .before .before .before .if1 .left, ← c .before .is-zero-from .ensures, c .if3 .left, first-zero _ (c .before .before .if2 .left)))
+returns-3 c =
+    let found = c .before .before in
+    let judge = found .before .before in
+    surveys _ _ _ (ap Sound (c .survey-sound .ensures) ∙ sym (sound-is _ _ _ (sym (judge .judge-area .ensures) ∙ found .t .given .1) .3))
 
 pub survey-area-spec : {M : Type 1} → statement M
 survey-area-spec =
     tie.close
     (tie.spec
+    judge-area-requires
+    enum-told
+    enum-told-2
+    enum-known-t
+    survey-sound-requires
     returns
-    shared-slice-read-if2
-    survey-journal-requires
     returns-2
-    is-zero-from-requires
-    returns-3
-    returns-4)
+    returns-3)

@@ -1,10 +1,11 @@
--- The survey of the area decides the definition's checks, and counts the journal's entries.
+-- The judgement of the area decides the definition's checks, and counts the journal's entries.
 use mathlib.Core.Path.{_≡_, sym, _∙_}
 use mathlib.Core.List.{[]}
 use Rattle.register.specs.Head.{entryOffset}
 use Rattle.journal.specs.Journal.{journalOf}
-use Rattle.journal.specs.Inner.Survey.{surveyOf}
+use Rattle.journal.specs.Inner.Judged.{tallyOf}
 use Rattle.journal.proofs.Entries.{length-entries}
+use Rattle.journal.proofs.Verdicts.{zero-is, damaged-is, sound-is}
 use Rattle.calls.specs.Checks.{reportChecks}
 use Rattle.calls.specs.Calls.{lengthIn}
 use Rattle.meter.proofs.Judged.{zero-number, damaged-number, sound-number}
@@ -12,8 +13,8 @@ use borrow.Author.Needs.{needs}
 use Rattle.meter.proofs.part.length_in.Statement.{statement}
 use Rattle.meter.proofs.part.length_in.Tie as tie
 
-survey-area-requires : tie.Need-survey-area-requires
-survey-area-requires c κs = search needs
+judge-area-requires : tie.Need-judge-area-requires
+judge-area-requires c κs = search needs
 
 enum-told : tie.Need-enum-told
 enum-told c = search needs
@@ -21,8 +22,8 @@ enum-told c = search needs
 enum-told-2 : tie.Need-enum-told-2
 enum-told-2 c = search needs
 
-enum-known-v : tie.Need-enum-known-v
-enum-known-v c = search needs
+enum-known-t : tie.Need-enum-known-t
+enum-known-t c = search needs
 
 offset-after-requires : tie.Need-offset-after-requires
 offset-after-requires c κs = search needs
@@ -34,30 +35,30 @@ returns : tie.Need-returns
 unfolding lengthIn reportChecks
 returns c =
     let d = c .before .before in
-    rw (zero-number (λ j. []) 0 0 _ (d .before .before .pre) (sym (d .survey-area .ensures .found-is) ∙ c .enum-told .given .1))
+    rw (zero-number (λ j. []) 0 0 _ (d .before .before .pre) (zero-is 0 0 _ (sym (d .judge-area .ensures) ∙ c .enum-told .given .1)))
 
 returns-2 : tie.Need-returns-2
 unfolding lengthIn reportChecks
 returns-2 c =
     let d = c .before .before in
-    rw (damaged-number (λ j. []) 0 0 _ (d .before .before .pre) (sym (d .survey-area .ensures .found-is) ∙ c .enum-told2 .given .1))
+    rw (damaged-number (λ j. []) 0 0 _ (d .before .before .pre) (damaged-is 0 0 _ (sym (d .judge-area .ensures) ∙ c .enum-told2 .given .1)))
 
 returns-3 : tie.Need-returns-3
-unfolding lengthIn reportChecks surveyOf journalOf entryOffset
+unfolding lengthIn reportChecks tallyOf journalOf entryOffset
 returns-3 c =
-    let v = c .before .before .before in
-    let d = v .before .before in
-    let sound = sound-number (λ j. []) 0 0 _ (d .before .before .pre) (sym (d .survey-area .ensures .found-is) ∙ v .v .given .1) in
-    rw (c .offset-after .ensures, sound .1, sound .0, length-entries)
+    let t = c .before .before .before in
+    let d = t .before .before in
+    let sound = sound-is 0 0 _ (sym (d .judge-area .ensures) ∙ t .t .given .1) in
+    rw (c .offset-after .ensures, sound-number (λ j. []) 0 0 _ (d .before .before .pre) (sound .3) .1, sound .2, length-entries)
 
 pub length-in-spec : {M : Type 1} → statement M
 length-in-spec =
     tie.close
     (tie.spec
-    survey-area-requires
+    judge-area-requires
     enum-told
     enum-told-2
-    enum-known-v
+    enum-known-t
     offset-after-requires
     cast-result
     returns

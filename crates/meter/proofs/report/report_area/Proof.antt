@@ -1,10 +1,12 @@
--- The survey decides the definition's two checks; of a sound journal its counts and its total are the report's.
+-- The judgement decides the definition's two checks; of a sound journal its counts and its total are the report's.
 use mathlib.Core.Path.{sym, _∙_}
 use mathlib.Core.List.{[]}
 use borrow.Author.Needs.{sfits-of}
 use mir.Syntax.{w64}
 use mir.ValLaws.{toZ-ofZ}
-use Rattle.journal.specs.Inner.Survey.{countsOf, surveyOf}
+use Rattle.journal.specs.Inner.Survey.{countsOf}
+use Rattle.journal.specs.Inner.Judged.{tallyOf}
+use Rattle.journal.proofs.Verdicts.{zero-is, damaged-is, sound-is}
 use Rattle.calls.specs.Checks.{reportChecks}
 use Rattle.calls.specs.Calls.{flaggedOf, reportOf, reportIn}
 use Rattle.meter.proofs.Judged.{zero-number, damaged-number, sound-number}
@@ -12,8 +14,8 @@ use borrow.Author.Needs.{needs}
 use Rattle.meter.proofs.report.report_area.Statement.{statement}
 use Rattle.meter.proofs.report.report_area.Tie as tie
 
-survey-area-requires : tie.Need-survey-area-requires
-survey-area-requires c κs = search needs
+judge-area-requires : tie.Need-judge-area-requires
+judge-area-requires c κs = search needs
 
 enum-told : tie.Need-enum-told
 enum-told c = search needs
@@ -27,8 +29,8 @@ enum-told-2 c = search needs
 refuse-report-requires-2 : tie.Need-refuse-report-requires-2
 refuse-report-requires-2 c κs = search needs
 
-enum-known-v : tie.Need-enum-known-v
-enum-known-v c = search needs
+enum-known-t : tie.Need-enum-known-t
+enum-known-t c = search needs
 
 cast-t6 : tie.Need-cast-t6
 cast-t6 c = search needs
@@ -43,33 +45,34 @@ returns : tie.Need-returns
 unfolding reportIn reportChecks
 returns c =
     let d = c .before .before .before in
-    rw (c .refuse-report .ensures, zero-number (λ j. []) 0 0 _ (d .before .before .pre) (sym (d .survey-area .ensures .found-is) ∙ c .before .enum-told .given .1))
+    rw (c .refuse-report .ensures, zero-number (λ j. []) 0 0 _ (d .before .before .pre) (zero-is 0 0 _ (sym (d .judge-area .ensures) ∙ c .before .enum-told .given .1)))
 
 returns-2 : tie.Need-returns-2
 unfolding reportIn reportChecks
 returns-2 c =
     let d = c .before .before .before in
-    rw (c .refuse-report2 .ensures, damaged-number (λ j. []) 0 0 _ (d .before .before .pre) (sym (d .survey-area .ensures .found-is) ∙ c .before .enum-told2 .given .1))
+    rw (c .refuse-report2 .ensures, damaged-number (λ j. []) 0 0 _ (d .before .before .pre) (damaged-is 0 0 _ (sym (d .judge-area .ensures) ∙ c .before .enum-told2 .given .1)))
 
 returns-3 : tie.Need-returns-3
-unfolding reportIn reportChecks reportOf surveyOf countsOf flaggedOf
+unfolding reportIn reportChecks reportOf tallyOf countsOf flaggedOf
 returns-3 c =
     let found = c .before .before .before .before .before in
     let d = found .before .before in
-    let sound = sound-number (λ j. []) 0 0 _ (d .before .before .pre) (sym (d .survey-area .ensures .found-is) ∙ found .v .given .1) in
-    let total = toZ-ofZ w64 _ (sfits-of (c .total .ok)) ∙ c .total .ensures 0 0 _ (sound .0) in
-    rw (total, sound .1, sound .0)
+    let sound = sound-is 0 0 _ (sym (d .judge-area .ensures) ∙ found .t .given .1) in
+    let number = sound-number (λ j. []) 0 0 _ (d .before .before .pre) (sound .3) .1 in
+    let total = toZ-ofZ w64 _ (sfits-of (c .total .ok)) ∙ c .total .ensures _ (sound .2) in
+    rw (total, number, sound .2)
 
 pub report-area-spec : {M : Type 1} → statement M
 report-area-spec =
     tie.close
     (tie.spec
-    survey-area-requires
+    judge-area-requires
     enum-told
     refuse-report-requires
     enum-told-2
     refuse-report-requires-2
-    enum-known-v
+    enum-known-t
     cast-t6
     cast-t7
     total-requires

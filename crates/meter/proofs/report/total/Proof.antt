@@ -1,57 +1,55 @@
--- The survey's fields are the journal's, and its last read is the first of the standing ones, so the match is the definition's.
-use mathlib.Core.Path.{_≡_, sym, _∙_}
+-- The tally's fields are the journal's, and its last value is that of the first of the standing reads, the newest.
+use mathlib.Core.Path.{_≡_, refl, ap, sym, _∙_}
 use mathlib.Core.List.{List, [], _∷_}
 use Prim.Native.Nat.{ℕ}
 use native.Mathlib.Omega.{arith}
 use lib.IntN.{pos}
+use lib.ListN.{length}
 use Rattle.arithmetic.specs.Advance.{advanceOf}
 use Rattle.terms.specs.declared.entry.Entry.{Entry}
-use Rattle.terms.specs.declared.entry.Slot.the-variants.{Read, Empty}
-use Rattle.terms.specs.Entry.{slotAt, recentOf}
+use Rattle.terms.specs.Entry.{slotAt}
 use Rattle.rules.proofs.Laws.{advance-word}
-use Rattle.journal.specs.declared.survey.Survey.{Survey}
+use Rattle.journal.specs.declared.judge.Tally.{Tally}
 use Rattle.journal.specs.Journal.{Journal, standing, firstValue}
-use Rattle.journal.specs.Inner.Survey.{countsOf, surveyOf}
+use Rattle.journal.specs.Inner.Judged.{valueOf, tallyOf}
+use Rattle.journal.specs.Inner.Survey.{countsOf}
 use Rattle.calls.specs.Calls.{flaggedOf, totalOf}
 use borrow.Author.Needs.{needs}
 use Rattle.meter.proofs.report.total.Statement.{statement}
 use Rattle.meter.proofs.report.total.Tie as tie
 
-total-last : (n : ℕ) (ss : List Entry) {r0 : Entry} → slotAt ss 0 ≡ Read r0 → totalOf n ss ≡ advanceOf n (r0 .value) (flaggedOf ss) (firstValue ss)
-unfolding slotAt totalOf
-total-last n [] e = cc
-total-last n (s ∷ ss) {r0} e = let same : s ≡ r0 = cc in rw same
+total-last : (n : ℕ) (ss : List Entry) → (length ss ≡ 0 → ⊥) → totalOf n ss ≡ advanceOf n (valueOf (slotAt ss 0)) (flaggedOf ss) (firstValue ss)
+unfolding slotAt totalOf valueOf
+total-last n [] some = absurd (some refl)
+total-last n (s ∷ ss) some = refl
 
-total-none : (n : ℕ) (ss : List Entry) → slotAt ss 0 ≡ Empty → totalOf n ss ≡ pos 0
-unfolding slotAt totalOf
-total-none n [] e = cc
-total-none n (s ∷ ss) e = cc
+total-none : (n : ℕ) (ss : List Entry) → length ss ≡ 0 → totalOf n ss ≡ pos 0
+unfolding totalOf
+total-none n [] none = refl
+total-none n (s ∷ ss) none = absurd (omega arith)
 
-module _ (day value : ℕ) (j : Journal) {v : Survey} (e : v ≡ surveyOf day value j) where
-  from-last : {r0 : Entry} → v .recent .last ≡ Read r0 → totalOf (j .head .dials) (standing (j .entries)) ≡ advanceOf (v .head .dials) (r0 .value) (v .counts .flagged) (v .counts .first)
-  unfolding surveyOf recentOf countsOf flaggedOf
-  from-last h = rw e (total-last (j .head .dials) (standing (j .entries)) (rw e at h))
+module _ (j : Journal) {t : Tally} (e : t ≡ tallyOf j) where
+  counted : t .counts .standing ≡ length (standing (j .entries))
+  unfolding tallyOf countsOf
+  counted = ap (λ (u : Tally). u .counts .standing) e
 
-  from-none : v .recent .last ≡ Empty → totalOf (j .head .dials) (standing (j .entries)) ≡ pos 0
-  unfolding surveyOf recentOf
-  from-none h = total-none (j .head .dials) (standing (j .entries)) (rw e at h)
+  from-last : (t .counts .standing ≡ 0 → ⊥) → totalOf (j .head .dials) (standing (j .entries)) ≡ advanceOf (t .head .dials) (t .last) (t .counts .flagged) (t .counts .first)
+  unfolding tallyOf countsOf flaggedOf
+  from-last some = rw e (total-last (j .head .dials) (standing (j .entries)) (λ z. some (counted ∙ z)))
 
-enum-known-last : tie.Need-enum-known-last
-enum-known-last c = search needs
+  from-none : t .counts .standing ≡ 0 → totalOf (j .head .dials) (standing (j .entries)) ≡ pos 0
+  from-none none = total-none (j .head .dials) (standing (j .entries)) (sym counted ∙ none)
+
+returns : tie.Need-returns
+returns c = λ j e. sym (from-none j e (c .if1 .taken))
 
 advance-requires : tie.Need-advance-requires
 advance-requires c κs = search needs
 
-enum-told : tie.Need-enum-told
-enum-told c = search needs
-
-returns : tie.Need-returns
-returns c = λ day value j e.
-    advance-word _ _ _ _ (c .advance .ensures) (omega arith) (omega arith) (omega arith) .reads
-    ∙ sym (from-last day value j e (c .before .before .last .given .1))
-
 returns-2 : tie.Need-returns-2
-returns-2 c = λ day value j e. sym (from-none day value j e (c .enum-told .given .1))
+returns-2 c = λ j e.
+    advance-word _ _ _ _ (c .advance .ensures) (omega arith) (omega arith) (omega arith) .reads
+    ∙ sym (from-last j e (c .before .if1 .left))
 
 pub total-spec : {M : Type 1} → statement M
-total-spec = tie.close (tie.spec enum-known-last advance-requires enum-told returns returns-2)
+total-spec = tie.close (tie.spec returns advance-requires returns-2)

@@ -1,0 +1,185 @@
+-- Standing reads apart from withdrawn ones: what one entry more adds, and when nothing need be compared.
+use mathlib.Core.Path.{_≡_, refl, sym, _∙_}
+use mathlib.Core.Bool.{Bool, true, false, not, _&&_, _||_, and-false}
+use mathlib.Core.List.{List, [], _∷_}
+use Prim.Native.Nat.{ℕ, zero, suc, _+_, _-_, _≤_, _<_}
+use native.Mathlib.Omega.{arith}
+use borrow.Author.Tests.{ltb-true, ltb-false, eqb-true, eqb-false, eq-eqb, ne-eqb}
+use lib.Dec.{eqb, ltb}
+use Rattle.terms.specs.declared.entry.Entry.{Entry}
+use Rattle.terms.specs.declared.entry.Slot.the-variants.{Empty}
+use Rattle.terms.specs.Entry.{kindStanding, kindWithdrawn, isStanding, isWithdrawn, keepIf, those, slotAt}
+use Rattle.register.specs.declared.head.Head.{Head}
+use Rattle.register.specs.Entries.{entryStart, entryAt}
+use Rattle.journal.specs.Journal.{entriesTo, standing, withdrawn, heldOf, onDay}
+use Rattle.journal.specs.Sound.{any, every, hasRead, areApart, areInOrder, areSound, daysRise, isLater, isFinalRead}
+use Rattle.journal.specs.Inner.Follow.{mayFollow}
+use Rattle.journal.specs.Inner.Loops.{dayOf}
+use Rattle.journal.specs.Inner.Marks.{isMarked, markOn}
+use Rattle.journal.specs.Inner.Past.{laterOf, latestDay, marksOf}
+use Rattle.journal.specs.Inner.Pass.{isOfKind, clashes}
+use Rattle.journal.specs.Inner.Survey.{foundOf}
+use Rattle.journal.proofs.Bools.{false-is, both, or-none}
+use Rattle.journal.proofs.Bits.{stays-marked, then-marked}
+use Rattle.journal.proofs.InOrder.{in-order-more}
+
+-- ---- one entry more
+eqb-flip : (m n : ℕ) → eqb m n ≡ eqb n m
+eqb-flip m n = flip (eqb m n) refl where
+  flip : (b : Bool) → eqb m n ≡ b → eqb m n ≡ eqb n m
+  flip true h = h ∙ sym (eq-eqb n m (sym (eqb-true m n h)))
+  flip false h = h ∙ sym (ne-eqb n m (λ e. eqb-false m n h (sym e)))
+
+read-flip : (e w : Entry) → hasRead (w .day) (w .value) e ≡ hasRead (e .day) (e .value) w
+unfolding hasRead
+read-flip e w = rw (eqb-flip (e .day) (w .day), eqb-flip (e .value) (w .value))
+
+swap : (x y n a : Bool) → not (x || y) && (not n && a) ≡ not (x || n) && (not y && a)
+swap true y n a = refl
+swap false true true a = refl
+swap false true false a = refl
+swap false false n a = refl
+
+-- a standing read more
+apart-standing : (e : Entry) (ss ws : List Entry) → areApart (e ∷ ss) ws ≡ not (any (hasRead (e .day) (e .value)) ws) && areApart ss ws
+unfolding areApart every any
+apart-standing e ss [] = refl
+apart-standing e ss (w ∷ ws) =
+    rw (read-flip e w, apart-standing e ss ws)
+    (swap (hasRead (e .day) (e .value) w) (any (hasRead (w .day) (w .value)) ss) (any (hasRead (e .day) (e .value)) ws) (areApart ss ws))
+
+apart-kept : (e : Entry) (b d : Bool) (ss ws : List Entry) → (b ≡ true → d ≡ false) → areApart (keepIf b e ss) (keepIf d e ws) ≡ not ((b && any (hasRead (e .day) (e .value)) ws) || (d && any (hasRead (e .day) (e .value)) ss)) && areApart ss ws
+unfolding areApart every
+apart-kept e true true ss ws h = false-is (sym (h refl))
+apart-kept e true false ss ws h = rw (or-none (any (hasRead (e .day) (e .value)) ws)) (apart-standing e ss ws)
+apart-kept e false true ss ws h = refl
+apart-kept e false false ss ws h = refl
+
+pub stands-unwithdrawn : (e : Entry) → isStanding e ≡ true → isWithdrawn e ≡ false
+unfolding isStanding isWithdrawn
+stands-unwithdrawn e h = rw (eqb-true (e .kind) kindStanding h)
+
+pub withdrawn-unstanding : (e : Entry) → isWithdrawn e ≡ true → isStanding e ≡ false
+unfolding isStanding isWithdrawn
+withdrawn-unstanding e h = rw (eqb-true (e .kind) kindWithdrawn h)
+
+pub apart-more : (e : Entry) (es : List Entry) → areApart (standing (e ∷ es)) (withdrawn (e ∷ es)) ≡ not (clashes e es) && areApart (standing es) (withdrawn es)
+unfolding those clashes
+apart-more e es = apart-kept e (isStanding e) (isWithdrawn e) (standing es) (withdrawn es) (stands-unwithdrawn e)
+
+-- ---- what is not sound stays so
+lost : (f i n a : Bool) → i && a ≡ false → (f && i) && (n && a) ≡ false
+lost true true true a h = h
+lost true true false a h = refl
+lost true false n a h = refl
+lost false i n a h = refl
+
+module _ (head : Head) (a : List ℕ) where
+  unsound-more : (e : Entry) (es : List Entry) → areSound head es ≡ false → areSound head (e ∷ es) ≡ false
+  unfolding areSound
+  unsound-more e es h = rw (in-order-more, apart-more) (lost (mayFollow head e (slotAt (standing es) 0) (heldOf es) (any isFinalRead (standing es))) (areInOrder head es) (not (clashes e es)) (areApart (standing es) (withdrawn es)) h)
+
+  unsound-after : (k n : ℕ) → areSound head (entriesTo k a) ≡ false → areSound head (entriesTo (n + k) a) ≡ false
+  unfolding entriesTo
+  unsound-after k zero h =
+      let e : zero + k ≡ k = omega arith in
+      rw e h
+  unsound-after k (suc n) h =
+      let e : suc n + k ≡ suc (n + k) = omega arith in
+      rw e (unsound-more (entryAt a (entryStart (n + k))) (entriesTo (n + k) a) (unsound-after k n h))
+
+  pub unsound-stays : (k m : ℕ) → k ≤ m → areSound head (entriesTo k a) ≡ false → areSound head (entriesTo m a) ≡ false
+  unsound-stays k m le h =
+      let e : m - k + k ≡ m = omega arith in
+      rw e at (unsound-after k (m - k) h)
+
+-- ---- when nothing need be compared
+pub later-both : (a b n : ℕ) → laterOf a b < n → (a < n) × (b < n)
+later-both a b n h = cases (ltb a b) refl where
+  cases : (t : Bool) → ltb a b ≡ t → (a < n) × (b < n)
+  cases true e =
+      let last : b < n = rw e at h in
+      (omega (arith, ltb-true a b e), last)
+  cases false e =
+      let last : a < n = rw e at h in
+      (last, omega (arith, ltb-false a b e))
+
+module _ (day value : ℕ) where
+  -- a day after every withdrawn one
+  pub none-as-late : (ws : List Entry) → latestDay ws < day → any (hasRead day value) ws ≡ false
+  unfolding any hasRead latestDay
+  none-as-late [] l = refl
+  none-as-late (w ∷ ws) l =
+      let days = later-both (latestDay ws) (w .day) day l in
+      let other : w .day ≡ day → ⊥ = λ e. omega (arith, days .1) in
+      rw (ne-eqb (w .day) day other) (none-as-late ws (days .0))
+
+  -- a value with no mark
+  pub none-marked : (ws : List Entry) → isMarked (marksOf ws) value ≡ false → any (hasRead day value) ws ≡ false
+  unfolding any hasRead marksOf
+  none-marked [] u = refl
+  none-marked (w ∷ ws) u =
+      let other : w .value ≡ value → ⊥ = λ e. false-is (sym u ∙ rw e (then-marked (marksOf ws) value)) in
+      rw (ne-eqb (w .value) value other, and-false) (none-marked ws (unmarked (isMarked (marksOf ws) value) refl)) where
+        unmarked : (b : Bool) → isMarked (marksOf ws) value ≡ b → isMarked (marksOf ws) value ≡ false
+        unmarked true e = false-is (sym u ∙ stays-marked (marksOf ws) (w .value) value e)
+        unmarked false e = e
+
+  -- a day after every standing one
+  pub none-stands : (ss : List Entry) → daysRise ss ≡ true → dayOf (slotAt ss 0) < day → any (hasRead day value) ss ≡ false
+  unfolding any hasRead daysRise dayOf slotAt
+  none-stands [] r l = refl
+  none-stands (s ∷ []) r l =
+      let other : s .day ≡ day → ⊥ = λ e. omega arith in
+      rw (ne-eqb (s .day) day other)
+  none-stands (s ∷ t ∷ ss) r l =
+      let c = both (isLater s t) (daysRise (t ∷ ss)) r in
+      let falls : t .day < s .day = ltb-true _ _ (c .0) in
+      let other : s .day ≡ day → ⊥ = λ e. omega arith in
+      rw (ne-eqb (s .day) day other) (none-stands (t ∷ ss) (c .1) (omega arith))
+
+  none-on : (ss : List Entry) → daysRise ss ≡ true → dayOf (slotAt ss 0) < day → onDay day ss ≡ Empty
+  unfolding onDay daysRise dayOf slotAt
+  none-on [] r l = refl
+  none-on (s ∷ []) r l =
+      let other : s .day ≡ day → ⊥ = λ e. omega arith in
+      rw (ne-eqb (s .day) day other)
+  none-on (s ∷ t ∷ ss) r l =
+      let c = both (isLater s t) (daysRise (t ∷ ss)) r in
+      let falls : t .day < s .day = ltb-true _ _ (c .0) in
+      let other : s .day ≡ day → ⊥ = λ e. omega arith in
+      rw (ne-eqb (s .day) day other) (none-on (t ∷ ss) (c .1) (omega arith))
+
+  pub nothing-found : (es : List Entry) → daysRise (standing es) ≡ true → dayOf (slotAt (standing es) 0) < day → latestDay (withdrawn es) < day → foundOf day value [] ≡ foundOf day value es
+  unfolding foundOf those any onDay
+  nothing-found es r l w = rw (none-on (standing es) r l, none-stands (standing es) r l, none-as-late (withdrawn es) w)
+
+-- ---- a clash by its parts
+of-standing : (es : List Entry) → those (isOfKind kindStanding) es ≡ standing es
+unfolding those isOfKind isStanding
+of-standing [] = refl
+of-standing (e ∷ es) = rw (of-standing es)
+
+of-withdrawn : (es : List Entry) → those (isOfKind kindWithdrawn) es ≡ withdrawn es
+unfolding those isOfKind isWithdrawn
+of-withdrawn [] = refl
+of-withdrawn (e ∷ es) = rw (of-withdrawn es)
+
+module _ (e : Entry) (es : List Entry) where
+  pub clash-standing : isStanding e ≡ true → clashes e es ≡ any (hasRead (e .day) (e .value)) (withdrawn es)
+  unfolding clashes
+  clash-standing h = rw (h, stands-unwithdrawn e h, or-none)
+
+  pub clash-standing-of : isStanding e ≡ true → clashes e es ≡ any (hasRead (e .day) (e .value)) (those (isOfKind kindWithdrawn) es)
+  clash-standing-of h = rw (of-withdrawn es) (clash-standing h)
+
+  pub clash-withdrawn : isStanding e ≡ false → isWithdrawn e ≡ true → clashes e es ≡ any (hasRead (e .day) (e .value)) (standing es)
+  unfolding clashes
+  clash-withdrawn h w = rw (h, w)
+
+  pub clash-withdrawn-of : isStanding e ≡ false → isWithdrawn e ≡ true → clashes e es ≡ any (hasRead (e .day) (e .value)) (those (isOfKind kindStanding) es)
+  clash-withdrawn-of h w = rw (of-standing es) (clash-withdrawn h w)
+
+  pub clash-other : isStanding e ≡ false → isWithdrawn e ≡ false → clashes e es ≡ false
+  unfolding clashes
+  clash-other h w = rw (h, w)

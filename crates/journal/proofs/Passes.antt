@@ -1,0 +1,118 @@
+-- The pass after one entry more, and how it ends.
+use mathlib.Core.Path.{_≡_, refl, sym, ap, _∙_}
+use mathlib.Core.Bool.{Bool, true, false, not, _&&_, _||_, cond, and-true, and-false}
+use mathlib.Core.List.{List, [], _∷_}
+use Prim.Native.Nat.{ℕ, _+_, _-_, _≤_, _<_}
+use native.Mathlib.Numerals.{add-one}
+use native.Mathlib.Omega.{arith}
+use Rattle.terms.specs.declared.entry.Entry.{Entry}
+use Rattle.terms.specs.Entry.{isStanding, isHeld, those, slotAt}
+use Rattle.register.specs.declared.head.Head.{Head}
+use Rattle.register.specs.Bytes.{byteAt}
+use Rattle.register.specs.Entries.{entryStart, entryAt}
+use Rattle.journal.specs.declared.limits.Limits.{Limits}
+use Rattle.journal.specs.declared.pass.Pass.{Pass}
+use Rattle.journal.specs.declared.run.Run.{Run}
+use Rattle.register.specs.Head.{mostEntries}
+use Rattle.journal.specs.Journal.{entriesTo, countFrom, standing, withdrawn, heldOf, isThere, firstValue}
+use Rattle.journal.specs.Sound.{every, any, isFinalRead, daysRise, opensRight, hasOneFinal, isHeldRight, areInOrder, areApart, areSound}
+use Rattle.journal.specs.Inner.Loops.{followsBy}
+use Rattle.journal.specs.Inner.Run.{runOf}
+use Rattle.journal.specs.Inner.Plain.{IsLimits, IsOpen}
+use Rattle.journal.specs.Inner.Pass.{passOf, clashes, IsPass, IsPassed}
+use Rattle.journal.proofs.Bools.{false-is, both}
+use Rattle.journal.proofs.Clashes.{apart-more, unsound-stays}
+use Rattle.journal.proofs.Entries.{any-kept, one-more, length-entries, count-on}
+use Rattle.journal.proofs.InOrder.{in-order-more, by-numbers, days-rise}
+use Rattle.journal.proofs.Runs.{there-kept, first-kept, held-there}
+
+pub pass-more : (head : Head) (e : Entry) (es : List Entry) → passOf head (e ∷ es) ≡ record {
+  run = runOf (e ∷ es);
+  first = cond (isStanding e && not (passOf head es .stands)) (e .value) (passOf head es .first);
+  sound = followsBy head e (passOf head es .stands) (passOf head es .run .day) (passOf head es .held) (passOf head es .ended) && passOf head es .sound;
+  stands = isStanding e || passOf head es .stands;
+  held = isHeld e;
+  ended = (isStanding e && isFinalRead e) || passOf head es .ended;
+}
+unfolding passOf runOf those heldOf
+pass-more head e es = simp (in-order-more, by-numbers, first-kept, there-kept, held-there, any-kept)
+
+pub pass-run : {p : Pass} (head : Head) (es : List Entry) → p ≡ passOf head es → p .run ≡ runOf es
+unfolding passOf
+pass-run head es h = ap (λ (q : Pass). q .run) h
+
+-- ---- one entry on, which may follow and clashes with none
+module _ (head : Head) (body : List ℕ) (e : Entry) (k : ℕ) (read : e ≡ entryAt body (entryStart k)) where
+  abbrev es : List Entry
+  es = entriesTo k body
+
+  on : entriesTo (k + 1) body ≡ e ∷ es
+  on = rw (one-more k body, ← read)
+
+  pub entry-pass : (p : Pass) → p ≡ passOf head (e ∷ es) → p .sound ≡ true → clashes e es ≡ false → areSound head es ≡ true → p .run .count ≡ k + 1 → IsPass head body p
+  unfolding areSound passOf
+  entry-pass p same sound free before count =
+      record {
+        same = same ∙ ap (λ (xs : List Entry). passOf head xs) (sym (ap (λ (n : ℕ). entriesTo n body) count ∙ on));
+        sound = rw (count, on, apart-more, free, both (areInOrder head es) _ before .1, and-true) (sym (ap (λ (q : Pass). q .sound) same) ∙ sound);
+      }
+
+  -- one that may not follow, or that clashes, ends it
+  pub entry-ends : (m : ℕ) → k + 1 ≤ m → (p : Pass) → p ≡ passOf head (e ∷ es) → not (p .sound) || clashes e es ≡ true → areSound head (entriesTo m body) ≡ false
+  unfolding areSound passOf
+  entry-ends m le p same bad = unsound-stays head body (k + 1) m le (rw (on, apart-more) (ends (areInOrder head (e ∷ es)) (clashes e es) (areApart (standing es) (withdrawn es)) (rw same at bad))) where
+    ends : (s c a : Bool) → not s || c ≡ true → s && (not c && a) ≡ false
+    ends true true a h = refl
+    ends true false a h = false-is h
+    ends false c a h = refl
+
+-- ---- the pass and what is open
+pub pass-open : {head : Head} {body : List ℕ} (p : Pass) → IsPass head body p → p .stands ≡ true → p .held ≡ false → IsOpen head (p .first) (p .ended) (entriesTo (p .run .count) body)
+unfolding passOf
+pass-open p is s h =
+    record {
+      sound = is .sound;
+      stands = sym (ap (λ (q : Pass). q .stands) (is .same)) ∙ s;
+      unheld = sym (ap (λ (q : Pass). q .held) (is .same)) ∙ h;
+      first-is = sym (ap (λ (q : Pass). q .first) (is .same));
+      ended-is = sym (ap (λ (q : Pass). q .ended) (is .same));
+    }
+
+pub open-pass : {head : Head} {body : List ℕ} {first : ℕ} {ended : Bool} (run : Run) → run ≡ runOf (entriesTo (run .count) body) → IsOpen head first ended (entriesTo (run .count) body) → IsPass head body (record { run = run; first = first; sound = true; stands = true; held = false; ended = ended })
+unfolding passOf areSound
+open-pass {head} {body} run is op =
+    record {
+      same = rw (← is, op .stands, op .unheld, op .first-is, op .ended-is, both (areInOrder head (entriesTo (run .count) body)) _ (op .sound) .0);
+      sound = op .sound;
+    }
+
+-- ---- where the pass starts, and where it has passed all
+pub pass-start : (head : Head) (body : List ℕ) (p : Pass) → p ≡ passOf head [] → (p .run .count ≡ 0) × IsPass head body p
+unfolding passOf runOf areSound areInOrder areApart every daysRise opensRight hasOneFinal isHeldRight those entriesTo
+pass-start head body p h =
+    let none : p .run .count ≡ 0 = ap (λ (q : Pass). q .run .count) h in
+    (none, record { same = h ∙ ap (λ (k : ℕ). passOf head (entriesTo k body)) (sym none); sound = rw none })
+
+pub pass-count : (head : Head) (e : Entry) (k : ℕ) (body : List ℕ) (p : Pass) → p ≡ passOf head (e ∷ entriesTo k body) → p .run .count ≡ k + 1
+unfolding passOf runOf
+pass-count head e k body p h = ap (λ (q : Pass). q .run .count) h ∙ rw (length-entries k body, add-one)
+
+pub all-passed : (head : Head) (body : List ℕ) (p : Pass) {l : Limits} {at : ℕ} → IsLimits head l → at ≡ p .run .count → IsPass head body p → countFrom (l .most - at) at body ≡ at → countFrom (l .most - at) at body ≡ countFrom (l .most) 0 body → IsPassed head body p
+unfolding passOf areSound
+all-passed head body p limits same is ends goes =
+    let es = entriesTo (p .run .count) body in
+    let all : p .run .count ≡ countFrom (mostEntries head) 0 body = sym same ∙ sym ends ∙ goes ∙ ap (λ (m : ℕ). countFrom m 0 body) (limits .most) in
+    let sound : p .sound ≡ true = ap (λ (q : Pass). q .sound) (is .same) ∙ both (areInOrder head es) _ (is .sound) .0 in
+    record { sound = sound ∙ sym (ap (λ (n : ℕ). areSound head (entriesTo n body)) (sym all) ∙ is .sound); count = λ h. all; pass = λ h. is }
+
+pub start-goes : (most : ℕ) (body : List ℕ) → countFrom (most - 0) 0 body ≡ countFrom most 0 body
+start-goes most body =
+    let e : most - 0 ≡ most = omega arith in
+    rw e
+
+pub next-goes : {most at k : ℕ} (body : List ℕ) → at < most → (byteAt body (entryStart at) ≡ 0 → ⊥) → countFrom (most - at) at body ≡ countFrom most 0 body → at ≡ k → countFrom (most - (k + 1)) (k + 1) body ≡ countFrom most 0 body
+next-goes {most} {at} body h some goes same = rw same at (sym (count-on most at body h some) ∙ goes)
+
+pub pass-rises : {head : Head} {body : List ℕ} {p : Pass} → IsPass head body p → daysRise (standing (entriesTo (p .run .count) body)) ≡ true
+unfolding areSound
+pass-rises {head} {body} {p} is = days-rise head _ (both (areInOrder head (entriesTo (p .run .count) body)) _ (is .sound) .0)

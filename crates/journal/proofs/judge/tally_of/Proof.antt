@@ -1,0 +1,24 @@
+-- Each part is that of the entries passed.
+use Rattle.journal.specs.Sound.{areInOrder, areSound}
+use Rattle.journal.proofs.Bools.{both}
+use Rattle.journal.proofs.Newest.{tally-is}
+use borrow.Author.Needs.{needs}
+use Rattle.journal.proofs.judge.tally_of.Statement.{statement}
+use Rattle.journal.proofs.judge.tally_of.Tie as tie
+
+kept-of-requires : tie.Need-kept-of-requires
+kept-of-requires c κs = search needs
+
+last-value-requires : tie.Need-last-value-requires
+last-value-requires c κs = search needs
+
+returns : tie.Need-returns
+unfolding areSound
+returns c =
+    let kept = c .before in
+    let start = kept .before .before .before in
+    λ is.
+    tally-is (start .args .head) _ (start .args .pass) (is .same) (both (areInOrder (start .args .head) _) _ (is .sound) .0) (kept .kept-of .ensures) (c .last-value .ensures)
+
+pub tally-of-spec : {M : Type 1} → statement M
+tally-of-spec = tie.close (tie.spec kept-of-requires last-value-requires returns)

@@ -1,0 +1,54 @@
+-- What an area is, with what is counted of a sound one's entries.
+use mathlib.Core.Bool.{not, _&&_, cond}
+use mathlib.Core.List.{List}
+use Prim.Native.Nat.{ℕ, _+_}
+use lib.Dec.{eqb}
+use lib.ListN.{length, drop}
+use Rattle.terms.specs.declared.entry.Entry.{Entry}
+use Rattle.terms.specs.declared.entry.Slot.{Slot}
+use Rattle.terms.specs.declared.entry.Slot.the-variants.{Read, Empty}
+use Rattle.terms.specs.Entry.{slotAt}
+use Rattle.register.specs.Area.{areaBytes}
+use Rattle.register.specs.declared.head.Head.{Head}
+use Rattle.register.specs.Entries.{entryStart}
+use Rattle.register.specs.Head.{mostEntries}
+use Rattle.journal.specs.declared.judge.Tally.{Tally}
+use Rattle.journal.specs.declared.judge.Judged.{Judged}
+use Rattle.journal.specs.declared.judge.Judged.the-variants.{Zero, Damaged, Sound}
+use Rattle.journal.specs.Journal.{Journal, journalOf, allZero, entriesTo, countFrom, standing, withdrawn}
+use Rattle.journal.specs.Sound.{isSound, areSound, any, isFinalRead}
+use Rattle.journal.specs.Inner.Loops.{dayOf}
+use Rattle.journal.specs.Inner.Past.{latestDay}
+use Rattle.journal.specs.Inner.Survey.{countsOf}
+
+-- the value of a read, and 0 where there is none
+unfoldable pub valueOf : Slot → ℕ
+valueOf (Read e) = e .value
+valueOf Empty = 0
+
+unfoldable pub tallyOf : Journal → Tally
+tallyOf j =
+    record {
+      head = j .head;
+      counts = countsOf (j .entries);
+      last = valueOf (slotAt (standing (j .entries)) 0);
+      day = dayOf (slotAt (standing (j .entries)) 0);
+      latest = latestDay (withdrawn (j .entries));
+      entries = length (j .entries);
+      ended = any isFinalRead (standing (j .entries));
+    }
+
+-- an area is all zero, sound or damaged; what is lent as one and is not 512 bytes long is no journal
+unfoldable pub judged : List ℕ → Judged
+judged area =
+    cond (not (eqb (length area) areaBytes))
+    Damaged
+    (cond (allZero area) Zero (cond (isSound area) (Sound (tallyOf (journalOf area))) Damaged))
+
+-- a body that follows a head
+unfoldable pub judgedBody : Head → List ℕ → Judged
+judgedBody head body =
+    let es : List Entry = entriesTo (countFrom (mostEntries head) 0 body) body in
+    cond (allZero (drop (entryStart (countFrom (mostEntries head) 0 body)) body) && areSound head es)
+    (Sound (tallyOf (record { head = head; entries = es })))
+    Damaged

@@ -1,0 +1,15 @@
+-- A number with a bit for each of 64 places. A value's place is its remainder.
+use mathlib.Core.Bool.{Bool, _&&_}
+use Prim.Native.Nat.{ℕ, _^_, _/_, _%_}
+use lib.Bits.{bitOr}
+use lib.Dec.{eqb, leb, ltb}
+
+unfoldable pub isMarked : ℕ → ℕ → Bool
+isMarked marks v = eqb (marks / 2 ^ (v % 64) % 2) 1
+
+unfoldable pub markOn : ℕ → ℕ → ℕ
+markOn marks v = bitOr marks (2 ^ (v % 64))
+
+-- a letter from 64 to 127
+unfoldable pub hasLetter : ℕ → ℕ → Bool
+hasLetter letters l = leb 64 l && (leb l 127 && isMarked letters l)

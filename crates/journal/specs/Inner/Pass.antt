@@ -1,0 +1,54 @@
+-- What the pass over a body's entries carries, and what is true of it.
+use mathlib.Core.Path.{_≡_}
+use mathlib.Core.Bool.{Bool, true, _&&_, _||_}
+use mathlib.Core.List.{List}
+use Prim.Native.Nat.{ℕ, _-_, _≤_}
+use lib.Dec.{eqb}
+use Rattle.terms.specs.declared.entry.Entry.{Entry}
+use Rattle.terms.specs.Entry.{isStanding, isWithdrawn, slotAt}
+use Rattle.register.specs.declared.head.Head.{Head}
+use Rattle.register.specs.Head.{mostEntries}
+use Rattle.journal.specs.declared.limits.Limits.{Limits}
+use Rattle.journal.specs.declared.pass.Pass.{Pass}
+use Rattle.journal.specs.Journal.{entriesTo, countFrom, standing, withdrawn, heldOf, isThere, firstValue}
+use Rattle.journal.specs.Sound.{any, hasRead, isFinalRead, areInOrder, areApart, areSound}
+use Rattle.journal.specs.Inner.Run.{runOf}
+use Rattle.journal.specs.Inner.Plain.{IsLimits}
+
+unfoldable pub passOf : Head → List Entry → Pass
+passOf head es =
+    record {
+      run = runOf es;
+      first = firstValue (standing es);
+      sound = areInOrder head es;
+      stands = isThere (slotAt (standing es) 0);
+      held = isThere (heldOf es);
+      ended = any isFinalRead (standing es);
+    }
+
+unfoldable pub isOfKind : ℕ → Entry → Bool
+isOfKind kind e = eqb (e .kind) kind
+
+-- an entry has the day and the value of a withdrawn one, if it stands, and of a standing one, if it is withdrawn
+unfoldable pub clashes : Entry → List Entry → Bool
+clashes e es =
+    (isStanding e && any (hasRead (e .day) (e .value)) (withdrawn es))
+    || (isWithdrawn e && any (hasRead (e .day) (e .value)) (standing es))
+
+-- the first entries of a body are sound, and the pass is of these
+pub record IsPass (head : Head) (body : List ℕ) (p : Pass) : Type 0 where
+  pub same : p ≡ passOf head (entriesTo (p .run .count) body)
+  pub sound : areSound head (entriesTo (p .run .count) body) ≡ true
+
+-- whether all entries of a body are sound, and if so the pass over them
+pub record IsPassed (head : Head) (body : List ℕ) (p : Pass) : Type 0 where
+  pub sound : p .sound ≡ areSound head (entriesTo (countFrom (mostEntries head) 0 body) body)
+  pub count : p .sound ≡ true → p .run .count ≡ countFrom (mostEntries head) 0 body
+  pub pass : p .sound ≡ true → IsPass head body p
+
+-- a pass with the plain entries that follow
+pub record PassesTo (body : List ℕ) (l : Limits) (p q : Pass) : Type 0 where
+  pub more : p .run .count ≤ q .run .count
+  pub few : q .run .count ≤ l .most
+  pub goes : countFrom (l .most - p .run .count) (p .run .count) body ≡ countFrom (l .most - q .run .count) (q .run .count) body
+  pub pass : (head : Head) → IsLimits head l → IsPass head body p → IsPass head body q

@@ -1,0 +1,17 @@
+// A number with a bit for each of 64 places. A value's place is its remainder.
+ghost use mathlib.Core.Path.{_≡_};
+ghost use Rattle.journal.specs.Inner.Marks.{isMarked, markOn};
+
+pub(crate) fn is_marked(marks: u64, value: u32) -> bool
+    ensures { λ r. ⌜ r ≡ isMarked marks value ⌝ }
+{
+    let bit = value % 64;
+    (marks >> bit) % 2 == 1
+}
+
+pub(crate) fn mark(marks: u64, value: u32) -> u64
+    ensures { λ r. ⌜ r ≡ markOn marks value ⌝ }
+{
+    let bit = value % 64;
+    marks | (1u64 << bit)
+}

@@ -1,0 +1,146 @@
+// The pass that judges the entries of a body. Runs of plain ones are taken in loops of their own, which carry less.
+ghost use mathlib.Core.Path.{_≡_};
+ghost use mathlib.Core.Bool.{false, cond};
+ghost use mathlib.Core.List.{List, [], _∷_};
+ghost use Prim.Native.Nat.{_≤_, _<_};
+ghost use lib.ListN.{length};
+ghost use Rattle.arithmetic.specs.Powers.{tenTo};
+ghost use Rattle.terms.specs.declared.entry.Entry.{Entry};
+ghost use Rattle.register.specs.declared.head.Head.{Head};
+ghost use Rattle.register.specs.Entries.{entryStart};
+ghost use Rattle.register.specs.Head.{mostEntries};
+ghost use Rattle.journal.specs.Journal.{entriesTo};
+ghost use Rattle.journal.specs.Inner.Run.{runOf};
+ghost use Rattle.journal.specs.Inner.Pass.{passOf, PassesTo, IsPassed};
+use crate::apart::is_clash;
+use crate::limits::Limits;
+use crate::limits::limits_of;
+use crate::order::is_final;
+use crate::order::is_held;
+use crate::order::is_standing;
+use crate::order::may_follow;
+use crate::read::entry_at;
+use crate::run::Run;
+use crate::run::count;
+use crate::run::plain_over;
+use crate::run::run_over;
+use crate::run::start_run;
+use register::head::Head;
+use terms::entry::Entry;
+
+pub struct Pass {
+    pub run: Run,
+    // The value of the first standing read.
+    pub first: u32,
+    // Sound but for what compares standing and withdrawn reads.
+    pub sound: bool,
+    // A read stands.
+    pub stands: bool,
+    // The newest entry is held.
+    pub held: bool,
+    // An F stands.
+    pub ended: bool,
+}
+
+fn start_pass() -> Pass
+    ensures { λ r. ⌜ ((head : Head) → r ≡ passOf head []) ⌝ }
+{
+    let run = start_run();
+    Pass {
+        run,
+        first: 0,
+        sound: true,
+        stands: false,
+        held: false,
+        ended: false,
+    }
+}
+
+// The value of the first standing read, with one entry more.
+fn first_with(first: u32, opens: bool, e: Entry) -> u32
+    ensures { λ r. ⌜ r ≡ cond opens (e .value) first ⌝ }
+{
+    if opens {
+        return e.value;
+    }
+    first
+}
+
+// One entry more, and whether it may follow.
+fn advance(pass: Pass, limit: u32, e: Entry) -> Pass
+    requires { ⌜ (pass .run .count < 255) × (pass .run .standing ≤ pass .run .count) × (pass .run .flagged ≤ pass .run .standing) ⌝ }
+    ensures { λ r. ⌜ ((head : Head) (es : List Entry) → limit ≡ tenTo (head .dials) → pass ≡ passOf head es → r ≡ passOf head (e ∷ es)) ⌝ }
+{
+    let run = pass.run;
+    let follows = may_follow(limit, e, pass.stands, run.day, pass.held, pass.ended);
+    let stands = is_standing(e);
+    let first = first_with(pass.first, stands & !pass.stands, e);
+    let counted = count(run, e);
+    Pass {
+        run: counted,
+        first,
+        sound: follows & pass.sound,
+        stands: stands | pass.stands,
+        held: is_held(e),
+        ended: (stands & is_final(e)) | pass.ended,
+    }
+}
+
+// Past the plain entries that follow, where a read stands and none is held.
+fn pass_plain(body: &[u8], limits: Limits, pass: Pass) -> Pass
+    requires { ⌜ (entryStart (limits .most) ≤ length (now body)) × (pass .run .count ≤ limits .most) × (pass .run ≡ runOf (entriesTo (pass .run .count) (now body))) ⌝ }
+    ensures { λ r. ⌜ PassesTo (now (body .entry)) limits pass r ⌝ }
+{
+    if pass.held | !pass.stands {
+        return pass;
+    }
+    let plain = plain_over(body, limits, pass.run);
+    let run = run_over(body, limits, plain);
+    Pass {
+        run,
+        first: pass.first,
+        sound: true,
+        stands: true,
+        held: false,
+        ended: pass.ended,
+    }
+}
+
+// The same, not sound.
+fn unsound(pass: Pass) -> Pass
+    ensures { λ r. ⌜ r .sound ≡ false ⌝ }
+{
+    let run = pass.run;
+    Pass {
+        run,
+        first: pass.first,
+        sound: false,
+        stands: pass.stands,
+        held: pass.held,
+        ended: pass.ended,
+    }
+}
+
+// Whether the entries that follow a head are sound, to the first zero kind byte. It ends at the first that is not.
+pub(crate) fn pass_over(body: &[u8], head: Head) -> Pass
+    requires { ⌜ entryStart (mostEntries head) ≤ length (now body) ⌝ }
+    ensures { λ r. ⌜ IsPassed head (now (body .entry)) r ⌝ }
+{
+    let limits = limits_of(head);
+    let mut pass = start_pass();
+    let mut at: u8 = 0;
+    while at < limits.most {
+        let e = entry_at(body, at);
+        if e.kind == 0 {
+            return pass;
+        }
+        let next = advance(pass, limits.limit, e);
+        if !next.sound | is_clash(body, pass.run, e) {
+            return unsound(next);
+        }
+        pass = pass_plain(body, limits, next);
+        let run = pass.run;
+        at = run.count;
+    }
+    pass
+}
