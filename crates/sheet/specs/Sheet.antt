@@ -36,12 +36,10 @@ bodyBytes Withdraw = 1 + 2 + 4
 bodyBytes Report = 1
 
 -- the call of a body that starts at i
---   "enrol (place 1, dials 1, capacity 4)"
---   "submit (place 1, submission day 2, read day 2, value 4, type 1, indicator 1, re-read 1)"
---   "withdraw (place 1, day 2, value 4)"
---   "report (place 1)"
 unfoldable pub callAt : Form → List ℕ → ℕ → Call
+-- "1 enrol (place 1, dials 1, capacity 4)"
 callAt Enrol sheet i = call.Enrol (byteAt sheet i) (byteAt sheet (i + 1)) (longAt sheet (i + 2))
+-- "2 submit (place 1, submission day 2, read day 2, value 4, type 1, indicator 1, re-read 1)"
 callAt Submit sheet i =
     call.Submit (byteAt sheet i)
     (record {
@@ -52,7 +50,9 @@ callAt Submit sheet i =
       indicator = byteAt sheet (i + 10);
       reread = byteAt sheet (i + 11);
     })
+-- "3 withdraw (place 1, day 2, value 4)"
 callAt Withdraw sheet i = call.Withdraw (byteAt sheet i) (wordAt sheet (i + 1)) (longAt sheet (i + 3))
+-- "4 report (place 1)"
 callAt Report sheet i = call.Report (byteAt sheet i)
 
 -- ---- an entry
@@ -65,7 +65,8 @@ kindIn (form ∷ rest) byte = cond (eqb byte (kindByte form)) (Known form) (kind
 unfoldable pub kindOf : ℕ → Kind
 kindOf byte = kindIn forms byte
 
--- an entry of a form with its kind byte at `at`: the call of a body that is there whole, and where the next entry starts. A cut body is a fault.
+-- an entry by its kind, with the kind byte at `at`: the call of a body that is there whole, and where the next entry starts. A cut body and an
+-- unknown kind are faults.
 unfoldable pub entryAt : Kind → List ℕ → ℕ → Next
 entryAt (Known form) sheet at =
     let next = at + 1 + bodyBytes form in

@@ -10,6 +10,7 @@ pub enum Form {
     Report,
 }
 
+// What a kind byte says: the form, if there is one of that number.
 pub enum Kind {
     Known(Form),
     Unknown,
