@@ -5,7 +5,10 @@ use mathlib.Core.List.{List, [], _∷_}
 use Prim.Native.Nat.{ℕ, _+_, _-_, _≤_, _<_}
 use native.Mathlib.Numerals.{add-one}
 use native.Mathlib.Omega.{arith}
+use borrow.Author.Tests.{eqb-true, ne-eqb, lt-ltb}
+use lib.Dec.{eqb}
 use Rattle.terms.specs.declared.entry.Entry.{Entry}
+use Rattle.terms.specs.Letter.{letterI, letterO, isKnown, isOpening, isFinal}
 use Rattle.terms.specs.Entry.{isStanding, isHeld, those, slotAt}
 use Rattle.register.specs.declared.head.Head.{Head}
 use Rattle.register.specs.Bytes.{byteAt}
@@ -15,15 +18,15 @@ use Rattle.journal.specs.declared.pass.Pass.{Pass}
 use Rattle.journal.specs.declared.run.Run.{Run}
 use Rattle.register.specs.Head.{mostEntries}
 use Rattle.journal.specs.Journal.{entriesTo, countFrom, standing, withdrawn, heldOf, isThere, firstValue}
-use Rattle.journal.specs.Sound.{every, any, isFinalRead, daysRise, opensRight, hasOneFinal, isHeldRight, areInOrder, areApart, areSound}
-use Rattle.journal.specs.Inner.Loops.{followsBy}
+use Rattle.journal.specs.Sound.{every, any, isFinalRead, holds, takes, opens, isInRange, isRead, daysRise, opensRight, hasOneFinal, isHeldRight, areInOrder, areApart, areSound}
+use Rattle.journal.specs.Inner.Loops.{standsBy, followsBy, dayOf}
 use Rattle.journal.specs.Inner.Run.{runOf}
-use Rattle.journal.specs.Inner.Plain.{IsLimits, IsOpen}
-use Rattle.journal.specs.Inner.Pass.{passOf, clashes, IsPass, IsPassed}
+use Rattle.journal.specs.Inner.Plain.{IsLimits, IsOpen, RunsTo}
+use Rattle.journal.specs.Inner.Pass.{passOf, clashes, IsPass, IsPassed, First, Starts}
 use Rattle.journal.proofs.Bools.{false-is, both}
-use Rattle.journal.proofs.Clashes.{apart-more, unsound-stays}
+use Rattle.journal.proofs.Clashes.{stands-unwithdrawn, apart-more, unsound-stays}
 use Rattle.journal.proofs.Entries.{any-kept, one-more, length-entries, count-on}
-use Rattle.journal.proofs.InOrder.{in-order-more, by-numbers, days-rise}
+use Rattle.journal.proofs.InOrder.{in-order-more, by-numbers, days-rise, stands-unheld}
 use Rattle.journal.proofs.Runs.{there-kept, first-kept, held-there}
 
 pub pass-more : (head : Head) (e : Entry) (es : List Entry) → passOf head (e ∷ es) ≡ record {
@@ -116,3 +119,72 @@ next-goes {most} {at} body h some goes same = rw same at (sym (count-on most at 
 pub pass-rises : {head : Head} {body : List ℕ} {p : Pass} → IsPass head body p → daysRise (standing (entriesTo (p .run .count) body)) ≡ true
 unfolding areSound
 pass-rises {head} {body} {p} is = days-rise head _ (both (areInOrder head (entriesTo (p .run .count) body)) _ (is .sound) .0)
+
+-- ---- the read that opens a journal
+opening-is : (l : ℕ) → isOpening l ≡ true → (isKnown l ≡ true) × (isFinal l ≡ false)
+unfolding isOpening isKnown isFinal
+opening-is l h = cases (eqb l letterI) refl where
+  cases : (b : Bool) → eqb l letterI ≡ b → (isKnown l ≡ true) × (isFinal l ≡ false)
+  cases true e = rw (eqb-true l letterI e) (refl, refl)
+  cases false e = rw (eqb-true l letterO (rw e at h)) (refl, refl)
+
+module _ {head : Head} {l : Limits} {e : Entry} (limits : IsLimits head l) (first : First (l .limit) e) where
+  read-is : isRead head e ≡ true
+  unfolding isRead isInRange holds takes
+  read-is =
+      rw (
+        first .stands,
+        ne-eqb (e .day) 0 (first .dated),
+        ← limits .limit,
+        lt-ltb (e .value) (l .limit) (first .small),
+        opening-is (e .letter) (first .opening) .0,
+        first .opening,
+        first .indicator,
+        first .flag,
+      )
+
+  first-follows : followsBy head e false 0 false false ≡ true
+  unfolding followsBy standsBy opens
+  first-follows = rw (read-is, first .stands, first .opening, first .flag, opening-is (e .letter) (first .opening) .1)
+
+  pub first-open : IsOpen head (e .value) false (e ∷ [])
+  unfolding areSound areInOrder areApart every any those heldOf isThere slotAt dayOf firstValue clashes daysRise opensRight hasOneFinal isHeldRight
+  first-open =
+      record {
+        sound = rw (in-order-more head e [], by-numbers, first-follows, apart-more e [], first .stands, stands-unwithdrawn e (first .stands));
+        stands = rw (first .stands);
+        unheld = rw (stands-unheld e (first .stands));
+        first-is = rw (first .stands);
+        ended-is = rw (first .stands, opening-is (e .letter) (first .opening) .1);
+      }
+
+pub start-zero : {run : Run} → run ≡ runOf [] → (run .count ≡ 0) × (run .standing ≡ 0) × (run .flagged ≡ 0)
+unfolding runOf those
+start-zero h = (ap (λ (r : Run). r .count) h, ap (λ (r : Run). r .standing) h, ap (λ (r : Run). r .flagged) h)
+
+-- a pass that starts with nothing, and with the read that opens
+module _ (body : List ℕ) (l : Limits) where
+  pub starts-none : (p : Pass) → (p .run ≡ runOf []) × ((head : Head) → p ≡ passOf head []) → Starts body l p
+  unfolding runOf
+  starts-none p h =
+      let none : p .run .count ≡ 0 = ap (λ (r : Run). r .count) (h .0) in
+      record {
+        few = omega arith;
+        goes = ap (λ (k : ℕ). countFrom (l .most - k) k body) none ∙ start-goes (l .most) body;
+        pass = λ head limits. pass-start head body p (h .1 head) .1;
+      }
+
+  pub first-run : {e : Entry} (run : Run) → e ≡ entryAt body (entryStart 0) → run .count ≡ 1 → run ≡ runOf (e ∷ []) → run ≡ runOf (entriesTo (run .count) body)
+  unfolding entriesTo
+  first-run run read one is = is ∙ ap (λ (xs : List Entry). runOf xs) (sym (ap (λ (k : ℕ). entriesTo k body) one ∙ rw (← read)))
+
+  pub starts-first : {e : Entry} {opened run : Run} → e ≡ entryAt body (entryStart 0) → First (l .limit) e → 0 < l .most → opened .count ≡ 1 → RunsTo body l opened run → Starts body l (record { run = run; first = e .value; sound = true; stands = true; held = false; ended = false })
+  unfolding entriesTo entryAt isStanding
+  starts-first {e} {opened} {run} read first some one runs =
+      let kind : byteAt body (entryStart 0) ≡ 0 → ⊥ = λ z. (let k : e .kind ≡ 2 = eqb-true _ _ (first .stands) in let n : e .kind ≡ 0 = rw read z in omega arith) in
+      let on : entriesTo (opened .count) body ≡ e ∷ [] = ap (λ (k : ℕ). entriesTo k body) one ∙ rw (← read) in
+      record {
+        few = runs .few;
+        goes = sym (runs .goes) ∙ ap (λ (k : ℕ). countFrom (l .most - k) k body) one ∙ sym (count-on (l .most) 0 body some kind) ∙ start-goes (l .most) body;
+        pass = λ head limits. open-pass run (runs .run-is) (runs .opened head (e .value) false limits (rw on (first-open limits first)));
+      }

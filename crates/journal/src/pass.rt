@@ -1,6 +1,6 @@
 // The pass that judges the entries of a body. Runs of plain ones are taken in loops of their own, which carry less.
 ghost use mathlib.Core.Path.{_≡_};
-ghost use mathlib.Core.Bool.{false, cond};
+ghost use mathlib.Core.Bool.{true, false, cond};
 ghost use mathlib.Core.List.{List, [], _∷_};
 ghost use Prim.Native.Nat.{_≤_, _<_};
 ghost use lib.ListN.{length};
@@ -11,7 +11,7 @@ ghost use Rattle.register.specs.Entries.{entryStart};
 ghost use Rattle.register.specs.Head.{mostEntries};
 ghost use Rattle.journal.specs.Journal.{entriesTo};
 ghost use Rattle.journal.specs.Inner.Run.{runOf};
-ghost use Rattle.journal.specs.Inner.Pass.{passOf, PassesTo, IsPassed};
+ghost use Rattle.journal.specs.Inner.Pass.{passOf, First, Starts, PassesTo, IsPassed};
 use crate::apart::is_clash;
 use crate::limits::Limits;
 use crate::limits::limits_of;
@@ -24,9 +24,11 @@ use crate::run::Run;
 use crate::run::count;
 use crate::run::plain_over;
 use crate::run::run_over;
+use crate::run::stand;
 use crate::run::start_run;
 use register::head::Head;
 use terms::entry::Entry;
+use terms::letter::is_opening;
 
 pub struct Pass {
     pub run: Run,
@@ -43,7 +45,7 @@ pub struct Pass {
 }
 
 fn start_pass() -> Pass
-    ensures { λ r. ⌜ ((head : Head) → r ≡ passOf head []) ⌝ }
+    ensures { λ r. ⌜ (r .run ≡ runOf []) × ((head : Head) → r ≡ passOf head []) ⌝ }
 {
     let run = start_run();
     Pass {
@@ -83,6 +85,53 @@ fn advance(pass: Pass, limit: u32, e: Entry) -> Pass
         stands: stands | pass.stands,
         held: is_held(e),
         ended: (stands & is_final(e)) | pass.ended,
+    }
+}
+
+// A read that opens a journal, with no indicator: never yes wrongly. Indicator and flag are tested together.
+fn is_first(limit: u32, e: Entry) -> bool
+    ensures { λ r. ⌜ (r ≡ true → First limit e) ⌝ }
+{
+    if !is_standing(e) {
+        return false;
+    }
+    if e.day == 0 {
+        return false;
+    }
+    if limit <= e.value {
+        return false;
+    }
+    if !is_opening(e.letter) {
+        return false;
+    }
+    let indicator = e.indicator as u16;
+    let flag = e.flag as u16;
+    indicator + 256 * flag == 0
+}
+
+// Past the read that opens the journal and the plain standing ones that follow it, which many journals are all of. What else may be at the
+// start is left to the way that knows all the rules.
+fn open_over(body: &[u8], limits: Limits) -> Pass
+    requires { ⌜ entryStart (limits .most) ≤ length (now body) ⌝ }
+    ensures { λ r. ⌜ Starts (now (body .entry)) limits r ⌝ }
+{
+    let start = start_pass();
+    if limits.most == 0 {
+        return start;
+    }
+    let e = entry_at(body, 0);
+    if !is_first(limits.limit, e) {
+        return start;
+    }
+    let opened = stand(start.run, 0, e);
+    let run = plain_over(body, limits, opened);
+    Pass {
+        run,
+        first: e.value,
+        sound: true,
+        stands: true,
+        held: false,
+        ended: false,
     }
 }
 
@@ -127,8 +176,9 @@ pub(crate) fn pass_over(body: &[u8], head: Head) -> Pass
     ensures { λ r. ⌜ IsPassed head (now (body .entry)) r ⌝ }
 {
     let limits = limits_of(head);
-    let mut pass = start_pass();
-    let mut at: u8 = 0;
+    let mut pass = open_over(body, limits);
+    let opened = pass.run;
+    let mut at = opened.count;
     while at < limits.most {
         let e = entry_at(body, at);
         if e.kind == 0 {

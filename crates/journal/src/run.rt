@@ -63,7 +63,7 @@ fn flagged_with(flagged: u8, e: Entry) -> u8
 }
 
 // One standing read more.
-fn stand(run: Run, flagged: u8, e: Entry) -> Run
+pub(crate) fn stand(run: Run, flagged: u8, e: Entry) -> Run
     requires { ⌜ (run .count < 255) × (run .standing ≤ run .count) ⌝ }
     ensures { λ r. ⌜ (r .count ≡ run .count + 1) × ((es : List Entry) → isStanding e ≡ true → flagged ≡ cond (isFlagged e) (run .flagged + 1) (run .flagged) → run ≡ runOf es → r ≡ runOf (e ∷ es)) ⌝ }
 {

@@ -1,16 +1,16 @@
 // What a call that changes a journal needs of it: what is counted, and the few entries that are wanted whole, which are read again.
 ghost use mathlib.Core.Path.{_≡_};
 ghost use mathlib.Core.Bool.{true};
-ghost use Prim.Native.Nat.{_≤_};
+ghost use Prim.Native.Nat.{_+_, _≤_};
 ghost use lib.ListN.{length};
 ghost use Rattle.terms.specs.Entry.{recentOf};
 ghost use Rattle.register.specs.Area.{areaBytes};
-ghost use Rattle.register.specs.Entries.{entryStart};
+ghost use Rattle.register.specs.Entries.{entryStart, entryAt};
 ghost use Rattle.journal.specs.Journal.{journalOf, entriesTo, standing, heldOf, newestAt};
 ghost use Rattle.journal.specs.Sound.{areSound, isSound};
 ghost use Rattle.journal.specs.Inner.Back.{EndsStanding};
 ghost use Rattle.journal.specs.Inner.Judged.{tallyOf};
-ghost use Rattle.journal.specs.Inner.Survey.{foundOf, surveyOf, Surveys};
+ghost use Rattle.journal.specs.Inner.Survey.{foundLast, foundOf, surveyOf, Surveys};
 use crate::judge::Counts;
 use crate::judge::Judged;
 use crate::judge::Tally;
@@ -60,13 +60,30 @@ fn found_over(body: &[u8], m: u8, day: u16, value: u32) -> Found
     found
 }
 
+// What is known of the day of the last standing read, where no withdrawn one is as late: it alone stands on that day.
+fn found_last(body: &[u8], newest: u8, value: u32) -> Found
+    requires { ⌜ entryStart (newest + 1) ≤ length (now body) ⌝ }
+    ensures { λ r. ⌜ r ≡ foundLast value (entryAt (now (body .entry)) (entryStart newest)) ⌝ }
+{
+    let e = entry_at(body, newest);
+    Found {
+        sameday: Slot::Read(e),
+        standing: e.value == value,
+        withdrawn: false,
+    }
+}
+
 // A day after the last standing and the latest withdrawn read is that of no entry.
 fn found_in(body: &[u8], t: Tally, day: u16, value: u32) -> Found
-    requires { ⌜ entryStart (t .entries) ≤ length (now body) ⌝ }
-    ensures { λ r. ⌜ (areSound (t .head) (entriesTo (t .entries) (now (body .entry))) ≡ true → t ≡ tallyOf (record { head = t .head; entries = entriesTo (t .entries) (now (body .entry)) }) → r ≡ foundOf day value (entriesTo (t .entries) (now (body .entry)))) ⌝ }
+    requires { ⌜ (entryStart (t .entries) ≤ length (now body)) × (areSound (t .head) (entriesTo (t .entries) (now body)) ≡ true) × (t ≡ tallyOf (record { head = t .head; entries = entriesTo (t .entries) (now body) })) ⌝ }
+    ensures { λ r. ⌜ r ≡ foundOf day value (entriesTo (t .entries) (now (body .entry))) ⌝ }
 {
     if later(t.day, t.latest) < day {
         return start_found();
+    }
+    if (t.day == day) & (t.latest < day) {
+        let counts = t.counts;
+        return found_last(body, counts.newest, value);
     }
     found_over(body, t.entries, day, value)
 }

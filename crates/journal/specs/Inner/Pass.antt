@@ -2,10 +2,11 @@
 use mathlib.Core.Path.{_≡_}
 use mathlib.Core.Bool.{Bool, true, _&&_, _||_}
 use mathlib.Core.List.{List}
-use Prim.Native.Nat.{ℕ, _-_, _≤_}
+use Prim.Native.Nat.{ℕ, _-_, _≤_, _<_}
 use lib.Dec.{eqb}
 use Rattle.terms.specs.declared.entry.Entry.{Entry}
 use Rattle.terms.specs.Entry.{isStanding, isWithdrawn, slotAt}
+use Rattle.terms.specs.Letter.{isOpening}
 use Rattle.register.specs.declared.head.Head.{Head}
 use Rattle.register.specs.Head.{mostEntries}
 use Rattle.journal.specs.declared.limits.Limits.{Limits}
@@ -45,6 +46,21 @@ pub record IsPassed (head : Head) (body : List ℕ) (p : Pass) : Type 0 where
   pub sound : p .sound ≡ areSound head (entriesTo (countFrom (mostEntries head) 0 body) body)
   pub count : p .sound ≡ true → p .run .count ≡ countFrom (mostEntries head) 0 body
   pub pass : p .sound ≡ true → IsPass head body p
+
+-- a read that opens a journal, with no indicator
+pub record First (limit : ℕ) (e : Entry) : Type 0 where
+  pub stands : isStanding e ≡ true
+  pub dated : e .day ≡ 0 → ⊥
+  pub small : e .value < limit
+  pub opening : isOpening (e .letter) ≡ true
+  pub indicator : e .indicator ≡ 0
+  pub flag : e .flag ≡ 0
+
+-- a pass over the start of a body
+pub record Starts (body : List ℕ) (l : Limits) (p : Pass) : Type 0 where
+  pub few : p .run .count ≤ l .most
+  pub goes : countFrom (l .most - p .run .count) (p .run .count) body ≡ countFrom (l .most) 0 body
+  pub pass : (head : Head) → IsLimits head l → IsPass head body p
 
 -- a pass with the plain entries that follow
 pub record PassesTo (body : List ℕ) (l : Limits) (p q : Pass) : Type 0 where

@@ -1,11 +1,12 @@
 -- What the loops over an area gather for the calls: each field as the journal's entries have it.
 use mathlib.Core.Path.{_≡_}
-use mathlib.Core.Bool.{not, cond}
+use mathlib.Core.Bool.{false, not, cond}
 use mathlib.Core.List.{List}
 use Prim.Native.Nat.{ℕ}
 use lib.Dec.{eqb}
 use lib.ListN.{length}
 use Rattle.terms.specs.declared.entry.Entry.{Entry}
+use Rattle.terms.specs.declared.entry.Slot.the-variants.{Read}
 use Rattle.terms.specs.Entry.{those, recentOf}
 use Rattle.terms.specs.Rule.{firstBroken}
 use Rattle.register.specs.Area.{areaBytes}
@@ -37,6 +38,10 @@ foundOf day value es =
       standing = any (hasRead day value) (standing es);
       withdrawn = any (hasRead day value) (withdrawn es);
     }
+
+-- the same where a read is the last standing one and no withdrawn one is as late
+unfoldable pub foundLast : ℕ → Entry → Found
+foundLast value s = record { sameday = Read s; standing = eqb (s .value) value; withdrawn = false }
 
 -- ---- what is known of a whole journal
 unfoldable pub surveyOf : ℕ → ℕ → Journal → Survey

@@ -16,7 +16,7 @@ use Rattle.journal.specs.Inner.Pass.{passOf, clashes, IsPass}
 use Rattle.journal.proofs.Bools.{false-is}
 use Rattle.journal.proofs.Entries.{count-ends, count-all, count-past}
 use Rattle.journal.proofs.Runs.{run-small}
-use Rattle.journal.proofs.Passes.{pass-run, entry-pass, entry-ends, pass-start, pass-count, all-passed, start-goes, next-goes, pass-rises}
+use Rattle.journal.proofs.Passes.{pass-run, entry-pass, entry-ends, pass-count, all-passed, next-goes, pass-rises}
 use borrow.Author.Needs.{needs}
 use Rattle.journal.proofs.pass.pass_over.Statement.{statement}
 use Rattle.journal.proofs.pass.pass_over.Tie as tie
@@ -30,30 +30,27 @@ abbrev μ-loop : tie.MeasureT-loop
 limits-of-requires : tie.Need-limits-of-requires Inv-loop μ-loop
 limits-of-requires c κs = search needs
 
-start-pass-requires : tie.Need-start-pass-requires Inv-loop μ-loop
-start-pass-requires c κs = search needs
+open-over-requires : tie.Need-open-over-requires Inv-loop μ-loop
+open-over-requires c κs = omega (arith, c .limits-of .ensures .most, c .before .before .pre)
 
 loop-holds : tie.Need-loop-holds Inv-loop μ-loop
-loop-holds c =
-    let start = c .before .before .before in
-    let first = pass-start (start .args .head) (start .args .body .now) _ (c .start-pass .ensures (start .args .head)) in
-    (sym (first .0), omega arith, λ head limits. pass-start head _ _ (c .start-pass .ensures head) .1, start-goes _ _)
+loop-holds c = let opened = c .before .open-over .ensures in (refl, opened .few, opened .pass, opened .goes)
 
 -- ---- at an entry
 module _ (c : tie.At-loop Inv-loop μ-loop) where
   abbrev start : tie.Start Inv-loop μ-loop
-  start = c .before .before .before .before
+  start = c .before .before .before .before .before
 
   abbrev body : List ℕ
   body = start .args .body .now
 
-  limits-are : IsLimits (start .args .head) (c .before .before .limits-of .result)
-  limits-are = c .before .before .limits-of .ensures
+  limits-are : IsLimits (start .args .head) (c .before .before .before .limits-of .result)
+  limits-are = c .before .before .before .limits-of .ensures
 
   passed : IsPass (start .args .head) body (c .loop .pass)
   passed = c .loop .inv .2 (start .args .head) limits-are
 
-  room : entryStart (c .before .before .limits-of .result .most) ≤ length body
+  room : entryStart (c .before .before .before .limits-of .result .most) ≤ length body
   room = omega (arith, limits-are .most, start .pre)
 
 entry-at-requires : tie.Need-entry-at-requires Inv-loop μ-loop
@@ -79,7 +76,7 @@ module _ (c : tie.Else2 Inv-loop μ-loop) where
   read-is : c .before .before .entry-at .result ≡ entryAt (body loop) (entryStart k)
   read-is = c .before .before .entry-at .ensures ∙ ap (λ (n : ℕ). entryAt (body loop) (entryStart n)) (loop .loop .inv .0)
 
-  goes-on : countFrom (loop .before .before .limits-of .result .most - (k + 1)) (k + 1) (body loop) ≡ countFrom (loop .before .before .limits-of .result .most) 0 (body loop)
+  goes-on : countFrom (loop .before .before .before .limits-of .result .most - (k + 1)) (k + 1) (body loop) ≡ countFrom (loop .before .before .before .limits-of .result .most) 0 (body loop)
   unfolding entryAt
   goes-on =
       let inv = loop .loop .inv in
@@ -112,7 +109,7 @@ module _ (c : tie.After-is-clash Inv-loop μ-loop) where
   abbrev es : List Entry
   es = entriesTo (k at) (body (loop at))
 
-  next-is : (head : Head) → IsLimits head (loop at .before .before .limits-of .result) → c .before .before .advance .result ≡ passOf head (at .before .before .entry-at .result ∷ es)
+  next-is : (head : Head) → IsLimits head (loop at .before .before .before .limits-of .result) → c .before .before .advance .result ≡ passOf head (at .before .before .entry-at .result ∷ es)
   next-is head limits = c .before .before .advance .ensures head es (limits .limit) (loop at .loop .inv .2 head limits .same)
 
   clash-is : c .is-clash .result ≡ clashes (at .before .before .entry-at .result) es
@@ -143,7 +140,7 @@ module _ (c : tie.Else3 Inv-loop μ-loop) where
   count-is : judge .before .before .advance .result .run .count ≡ k (at judge) + 1
   count-is = let l = loop (at judge) in pass-count (start l .args .head) _ (k (at judge)) (body l) _ (next-is judge (start l .args .head) (limits-are l))
 
-  next-passed : (head : Head) → IsLimits head (loop (at judge) .before .before .limits-of .result) → IsPass head (body (loop (at judge))) (judge .before .before .advance .result)
+  next-passed : (head : Head) → IsLimits head (loop (at judge) .before .before .before .limits-of .result) → IsPass head (body (loop (at judge))) (judge .before .before .advance .result)
   next-passed head limits =
       entry-pass
       head
@@ -175,7 +172,7 @@ loop-again c =
     let e = c .before .before in
     let plain = c .before .pass-plain .ensures in
     let l = loop (at (judge e)) in
-    (refl, plain .few, λ head limits. plain .pass head limits (next-passed e head limits), sym (plain .goes) ∙ ap (λ (n : ℕ). countFrom (l .before .before .limits-of .result .most - n) n (body l)) (count-is e) ∙ goes-on (at (judge e)))
+    (refl, plain .few, λ head limits. plain .pass head limits (next-passed e head limits), sym (plain .goes) ∙ ap (λ (n : ℕ). countFrom (l .before .before .before .limits-of .result .most - n) n (body l)) (count-is e) ∙ goes-on (at (judge e)))
 
 returns-3 : tie.Need-returns-3 Inv-loop μ-loop
 returns-3 c =
@@ -190,7 +187,7 @@ pass-over-spec =
     Inv-loop
     μ-loop
     limits-of-requires
-    start-pass-requires
+    open-over-requires
     loop-holds
     entry-at-requires
     returns

@@ -11,7 +11,7 @@ start-run-requires c κs = search needs
 
 returns : tie.Need-returns
 unfolding passOf areInOrder every any daysRise opensRight hasOneFinal isHeldRight those slotAt heldOf isThere firstValue
-returns c = λ head. rw (c .start-run .ensures)
+returns c = (c .start-run .ensures, λ head. rw (c .start-run .ensures))
 
 pub start-pass-spec : {M : Type 1} → statement M
 start-pass-spec = tie.close (tie.spec start-run-requires returns)

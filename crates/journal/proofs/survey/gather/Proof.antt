@@ -32,7 +32,7 @@ returns c =
     rw (
       recent .recent-over .ensures,
       held .held-over .ensures,
-      c .found-in .ensures (start .pre .1) tally,
+      c .found-in .ensures,
       length-entries,
       ← ap (λ (u : Tally). u .counts) tally,
       ← ap (λ (u : Tally). u .ended) tally,
