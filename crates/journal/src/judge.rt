@@ -10,7 +10,7 @@ ghost use Rattle.register.specs.Entries.{entryStart};
 ghost use Rattle.register.specs.Head.{headOf, mostEntries};
 ghost use Rattle.journal.specs.Journal.{allZero, entriesTo, standing};
 ghost use Rattle.journal.specs.Sound.{isHead};
-ghost use Rattle.journal.specs.Inner.Judged.{valueOf, tallyOf, judged, judgedBody};
+ghost use Rattle.journal.specs.Inner.Judged.{valueOf, tallyOf, judged, judgedBody, Judges};
 ghost use Rattle.journal.specs.Inner.Run.{runOf};
 ghost use Rattle.journal.specs.Inner.Pass.{IsPass};
 use crate::pass::Pass;
@@ -143,7 +143,7 @@ fn judge_journal(area: &[u8]) -> Judged
 // All zero, damaged, or sound with what is counted: for any bytes whatever. An area whose first byte is not zero need not be looked through
 // for zeros.
 pub fn judge_area(area: &[u8]) -> Judged
-    ensures { λ r. ⌜ r ≡ judged (now (area .entry)) ⌝ }
+    ensures { λ r. ⌜ Judges (now (area .entry)) r ⌝ }
 {
     if area.len() != Layout::AREA_BYTES {
         return Judged::Damaged;

@@ -8,6 +8,7 @@ use lib.ListN.{getD}
 use Rattle.journal.specs.Journal.{allZero}
 use Rattle.journal.specs.Sound.{isHead, isSound}
 use Rattle.journal.specs.Inner.Judged.{judged}
+use Rattle.journal.proofs.Numbers.{judges}
 use borrow.Author.Needs.{needs}
 use Rattle.journal.proofs.judge.judge_area.Statement.{statement}
 use Rattle.journal.proofs.judge.judge_area.Tie as tie
@@ -23,7 +24,7 @@ first-zero area h = rw h
 
 returns : tie.Need-returns
 unfolding judged
-returns c = rw (ne-eqb _ _ (c .if1 .taken))
+returns c = judges _ (rw (ne-eqb _ _ (c .if1 .taken)))
 
 shared-slice-read-if2 : tie.Need-shared-slice-read-if2
 shared-slice-read-if2 c = search needs
@@ -32,18 +33,18 @@ judge-journal-requires : tie.Need-judge-journal-requires
 judge-journal-requires c κs = (c .before .before .if1 .left, first-not-zero _ (c .if2 .taken))
 
 returns-2 : tie.Need-returns-2
-returns-2 c = search needs
+returns-2 c = judges _ (c .judge-journal .ensures)
 
 is-zero-from-requires : tie.Need-is-zero-from-requires
 is-zero-from-requires c κs = search needs
 
 returns-3 : tie.Need-returns-3
 unfolding judged
-returns-3 c = rw (c .before .before .before .before .if1 .left, ← c .before .is-zero-from .ensures, c .if3 .taken)
+returns-3 c = judges _ (rw (c .before .before .before .before .if1 .left, ← c .before .is-zero-from .ensures, c .if3 .taken))
 
 returns-4 : tie.Need-returns-4
 unfolding judged
-returns-4 c = rw (c .before .before .before .before .if1 .left, ← c .before .is-zero-from .ensures, c .if3 .left, first-zero _ (c .before .before .if2 .left))
+returns-4 c = judges _ (rw (c .before .before .before .before .if1 .left, ← c .before .is-zero-from .ensures, c .if3 .left, first-zero _ (c .before .before .if2 .left)))
 
 pub judge-area-spec : {M : Type 1} → statement M
 judge-area-spec =

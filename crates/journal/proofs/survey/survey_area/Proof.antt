@@ -23,20 +23,20 @@ survey-sound-requires : tie.Need-survey-sound-requires
 survey-sound-requires c κs =
     let found = c .before in
     let judge = found .before .before in
-    let sound = sound-is 0 0 _ (sym (judge .judge-area .ensures) ∙ found .t .given .1) in
+    let sound = sound-is 0 0 _ (sym (judge .judge-area .ensures .found-is) ∙ found .t .given .1) in
     (sound .0, sound .1, sound .2)
 
 returns : tie.Need-returns
-returns c = let judge = c .before .before in surveys _ _ _ (sym (zero-is _ _ _ (sym (judge .judge-area .ensures) ∙ c .enum-told .given .1)))
+returns c = let judge = c .before .before in surveys _ _ _ (sym (zero-is _ _ _ (sym (judge .judge-area .ensures .found-is) ∙ c .enum-told .given .1)))
 
 returns-2 : tie.Need-returns-2
-returns-2 c = let judge = c .before .before in surveys _ _ _ (sym (damaged-is _ _ _ (sym (judge .judge-area .ensures) ∙ c .enum-told2 .given .1)))
+returns-2 c = let judge = c .before .before in surveys _ _ _ (sym (damaged-is _ _ _ (sym (judge .judge-area .ensures .found-is) ∙ c .enum-told2 .given .1)))
 
 returns-3 : tie.Need-returns-3
 returns-3 c =
     let found = c .before .before in
     let judge = found .before .before in
-    surveys _ _ _ (ap Sound (c .survey-sound .ensures) ∙ sym (sound-is _ _ _ (sym (judge .judge-area .ensures) ∙ found .t .given .1) .3))
+    surveys _ _ _ (ap Sound (c .survey-sound .ensures) ∙ sym (sound-is _ _ _ (sym (judge .judge-area .ensures .found-is) ∙ found .t .given .1) .3))
 
 pub survey-area-spec : {M : Type 1} → statement M
 survey-area-spec =

@@ -35,20 +35,20 @@ returns : tie.Need-returns
 unfolding lengthIn reportChecks
 returns c =
     let d = c .before .before in
-    rw (zero-number (λ j. []) 0 0 _ (d .before .before .pre) (zero-is 0 0 _ (sym (d .judge-area .ensures) ∙ c .enum-told .given .1)))
+    rw (zero-number (λ j. []) 0 0 _ (d .before .before .pre) (zero-is 0 0 _ (sym (d .judge-area .ensures .found-is) ∙ c .enum-told .given .1)))
 
 returns-2 : tie.Need-returns-2
 unfolding lengthIn reportChecks
 returns-2 c =
     let d = c .before .before in
-    rw (damaged-number (λ j. []) 0 0 _ (d .before .before .pre) (damaged-is 0 0 _ (sym (d .judge-area .ensures) ∙ c .enum-told2 .given .1)))
+    rw (damaged-number (λ j. []) 0 0 _ (d .before .before .pre) (damaged-is 0 0 _ (sym (d .judge-area .ensures .found-is) ∙ c .enum-told2 .given .1)))
 
 returns-3 : tie.Need-returns-3
 unfolding lengthIn reportChecks tallyOf journalOf entryOffset
 returns-3 c =
     let t = c .before .before .before in
     let d = t .before .before in
-    let sound = sound-is 0 0 _ (sym (d .judge-area .ensures) ∙ t .t .given .1) in
+    let sound = sound-is 0 0 _ (sym (d .judge-area .ensures .found-is) ∙ t .t .given .1) in
     rw (c .offset-after .ensures, sound-number (λ j. []) 0 0 _ (d .before .before .pre) (sound .3) .1, sound .2, length-entries)
 
 pub length-in-spec : {M : Type 1} → statement M
