@@ -1,7 +1,8 @@
 //! The figures of version 0.1.0, to be shown beside those of now.
 //!
-//! Instructions were counted as they are now, on the same journals and the same sheet. Times were taken on another day and
-//! a slower machine, of some rows only, on journals and a sheet whose reads were all cyclic but the first.
+//! Instructions were counted as they are now, on the same journals and the same sheet. Times are medians of a run of its
+//! own, in which the peer took nearly twice as long as well: of some rows only, on journals and a sheet whose reads were all
+//! cyclic but the first.
 
 use crate::rows::Row;
 
@@ -72,8 +73,8 @@ const CALLS: &[CallRow] = &[
 type ProgramRow = (&'static str, Option<f64>, Option<u64>);
 
 const PROGRAMS: &[ProgramRow] = &[
-    ("`readday` on an empty sheet", Some(1.90), Some(2_802_276)),
-    ("`readday` on the longest sheet", Some(4.47), Some(31_162_464)),
+    ("`readday` on an empty sheet", Some(1.90), Some(2_783_750)),
+    ("`readday` on the longest sheet", Some(4.47), Some(31_143_938)),
     ("that sheet's calls through the library, without printing", None, Some(27_263_024)),
     ("that sheet played by the peer, in a process that runs already", Some(4.97), None),
 ];

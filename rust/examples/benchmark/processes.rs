@@ -4,8 +4,10 @@ use std::io::{self, Write};
 use std::path::{Path, PathBuf};
 use std::process::{Command, Output, Stdio};
 
-/// Runs a command to its end with this input.
+/// Runs a command to its end with this input. Of the environment it gets the path alone: what a program's start costs
+/// depends on the variables that it finds.
 pub fn run(command: &mut Command, input: &[u8]) -> io::Result<Output> {
+    command.env_clear().envs(std::env::var_os("PATH").map(|path| ("PATH", path)));
     let mut child = command.stdin(Stdio::piped()).stdout(Stdio::piped()).stderr(Stdio::piped()).spawn()?;
     let stdin = child.stdin.take();
     std::thread::scope(|scope| {

@@ -4,7 +4,7 @@ use crate::before;
 use crate::cells::{decimal, grouped, or_dash};
 use crate::processes::{run, EmptyProgram};
 use crate::sheet::{long_sheet, make_calls};
-use crate::timing::median;
+use crate::timing::fast_tenth;
 use crate::{counting, peer};
 use necktureen::Call;
 use std::hint::black_box;
@@ -68,7 +68,7 @@ impl<'a> Line<'a> {
 /// The milliseconds of each line. Each round goes through all lines, as with the calls.
 fn measure(lines: &[Line]) -> Vec<f64> {
     let rounds: Vec<Vec<f64>> = (0..ROUNDS).map(|_| lines.iter().map(Line::milliseconds).collect()).collect();
-    (0..lines.len()).map(|line| median(rounds.iter().map(|round| round[line]))).collect()
+    (0..lines.len()).map(|line| fast_tenth(rounds.iter().map(|round| round[line]))).collect()
 }
 
 // ---- The table ----
