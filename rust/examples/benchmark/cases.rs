@@ -1,0 +1,96 @@
+//! The cases that are measured, in the order of the tables.
+
+use crate::journals::{damage, day, next_read, register, value, Withdrawn, ADVANCE, CAPACITY, DIALS, PLACES};
+use crate::rows::{Made, Row};
+use necktureen::{Number, REGISTER_BYTES};
+
+pub fn rows() -> Vec<Row> {
+    let mut rows = reports();
+    rows.extend(accepted_submissions());
+    rows.extend([3, 25, 49].map(misfit));
+    rows.extend([3, 25, 49].map(place_64));
+    rows.extend([3, 25, 49].map(|entries| submit("refused last, capacity (21)", entries, 190, Number::Capacity)));
+    rows.extend([3, 25, 49].map(|entries| submit("held, low (19)", entries, 19, Number::Low)));
+    rows.extend([3, 25, 49].map(|entries| submit("held, high (20)", entries, 201, Number::High)));
+    rows.extend([1, 25, 50].map(withdraw));
+    rows.push(enrol());
+    rows.extend([0, 50].map(|entries| row(Made::Journal, "handed back", entries, Number::Accepted)));
+    rows
+}
+
+fn row(made: Made, case: &'static str, entries: usize, expected: Number) -> Row {
+    let places = (0..PLACES).collect();
+    Row { call: made.word(), case, entries, expected, made, places, register: register(entries, Withdrawn::None) }
+}
+
+// ---- Reports ----
+
+fn report(entries: usize) -> Row {
+    row(Made::Report, "accepted", entries, Number::Accepted)
+}
+
+fn report_at(case: &'static str, place: u16) -> Row {
+    Row { case, places: vec![place; usize::from(PLACES)], ..report(25) }
+}
+
+fn report_damaged(entries: usize) -> Row {
+    let mut row = row(Made::Report, "refused, the last entry damaged (4)", entries, Number::Damaged);
+    damage(&mut row.register, entries - 1);
+    row
+}
+
+fn reports() -> Vec<Row> {
+    let mut rows: Vec<Row> = [0, 3, 25, 50].map(report).into();
+    let half = register(50, Withdrawn::EverySecond);
+    rows.push(Row { case: "accepted, every second entry withdrawn", register: half, ..report(50) });
+    rows.push(report_damaged(50));
+    rows.push(report_at("accepted, place 0", 0));
+    rows.push(report_at("accepted, place 31", 31));
+    rows.push(report_at("accepted, place 63", 63));
+    rows
+}
+
+// ---- Submissions ----
+
+fn submit(case: &'static str, entries: usize, advance: u32, expected: Number) -> Row {
+    row(Made::Submit(next_read(entries, advance)), case, entries, expected)
+}
+
+pub fn submit_accepted(entries: usize) -> Row {
+    submit("accepted", entries, ADVANCE, Number::Accepted)
+}
+
+fn submit_over(case: &'static str, entries: usize, withdrawn: Withdrawn) -> Row {
+    let made = Made::Submit(next_read(withdrawn.standing(entries), ADVANCE));
+    Row { case, made, register: register(entries, withdrawn), ..submit_accepted(entries) }
+}
+
+fn accepted_submissions() -> Vec<Row> {
+    let mut rows: Vec<Row> = [0, 3, 25, 49].map(submit_accepted).into();
+    rows.push(submit_over("accepted, every second entry withdrawn", 49, Withdrawn::EverySecond));
+    rows.push(submit_over("accepted, all entries but the first withdrawn", 49, Withdrawn::AllButFirst));
+    rows
+}
+
+fn misfit(entries: usize) -> Row {
+    let mut row = submit("refused at once, misfit (2)", entries, ADVANCE, Number::Misfit);
+    row.register.truncate(REGISTER_BYTES - 1);
+    row
+}
+
+fn place_64(entries: usize) -> Row {
+    let row = submit("refused at once, place 64 (3)", entries, ADVANCE, Number::NoMeter);
+    Row { places: vec![64; usize::from(PLACES)], ..row }
+}
+
+// ---- The other calls ----
+
+fn withdraw(entries: usize) -> Row {
+    let last = entries - 1;
+    row(Made::Withdraw { day: day(last), value: value(last) }, "accepted", entries, Number::Accepted)
+}
+
+fn enrol() -> Row {
+    let made = Made::Enrol { dials: DIALS, capacity: CAPACITY };
+    Row { register: vec![0; REGISTER_BYTES], ..row(made, "accepted", 0, Number::Accepted) }
+}

@@ -1,0 +1,90 @@
+//! The registers that calls are made on: 64 equal journals, with reads of every type but F, of which only one may stand.
+
+use necktureen::{Submission, AREA_BYTES};
+
+pub const PLACES: u16 = 64;
+pub const DIALS: u8 = 6;
+/// 300 m³ a year let 100 m³ in 180 days pass and refuse 190 m³, which is below twice as much.
+pub const CAPACITY: u32 = 300;
+/// How far the dials go from one read to the next.
+pub const ADVANCE: u32 = 100;
+
+const FIRST_DAY: u16 = 1000;
+const DAYS: u16 = 180;
+/// The letters of the reads after the opening one, in turn.
+const LETTERS: [u8; 8] = *b"CURTSXYE";
+const METER_BYTES: usize = 6;
+const ENTRY_BYTES: usize = 10;
+
+/// Which entries of a journal are withdrawn.
+#[derive(Clone, Copy)]
+pub enum Withdrawn {
+    None,
+    EverySecond,
+    AllButFirst,
+}
+
+impl Withdrawn {
+    /// How many of a journal's first entries stand.
+    pub fn standing(self, entries: usize) -> usize {
+        match self {
+            Withdrawn::None => entries,
+            Withdrawn::EverySecond => entries.div_ceil(2),
+            Withdrawn::AllButFirst => entries.min(1),
+        }
+    }
+}
+
+/// The day of the read that so many others stand before.
+pub fn day(standing: usize) -> u16 {
+    FIRST_DAY + DAYS * standing as u16
+}
+
+/// What the dials show on that day.
+pub fn value(standing: usize) -> u32 {
+    ADVANCE * (standing as u32 + 1)
+}
+
+fn letter(standing: usize) -> u8 {
+    match standing.checked_sub(1) {
+        None => b'I',
+        Some(later) => LETTERS[later % LETTERS.len()],
+    }
+}
+
+/// The read that follows so many standing ones, with this advance.
+pub fn next_read(standing: usize, advance: u32) -> Submission {
+    let (day, last) = (day(standing), value(standing) - ADVANCE);
+    Submission { submitted: day, day, value: last + advance, letter: letter(standing), indicator: 0, reread: 0 }
+}
+
+/// A register with the same journal at every place. A withdrawn entry is a misread of the read that stands next: of its
+/// day and type, with another value.
+pub fn register(entries: usize, withdrawn: Withdrawn) -> Vec<u8> {
+    let mut area = vec![0; AREA_BYTES];
+    area[..2].copy_from_slice(&[1, DIALS]);
+    area[2..METER_BYTES].copy_from_slice(&CAPACITY.to_le_bytes());
+    for (position, entry) in area[METER_BYTES..].chunks_exact_mut(ENTRY_BYTES).take(entries).enumerate() {
+        let standing = withdrawn.standing(position);
+        if withdrawn.standing(position + 1) > standing {
+            write_entry(entry, 2, standing, value(standing));
+        } else {
+            write_entry(entry, 3, standing, value(standing) + 1 + position as u32);
+        }
+    }
+    area.repeat(usize::from(PLACES))
+}
+
+fn write_entry(entry: &mut [u8], kind: u8, standing: usize, value: u32) {
+    entry[0] = kind;
+    entry[1..3].copy_from_slice(&day(standing).to_le_bytes());
+    entry[3..7].copy_from_slice(&value.to_le_bytes());
+    entry[7..].copy_from_slice(&[letter(standing), 0, 0]);
+}
+
+/// Gives the entry that follows so many others an unknown type, at every place.
+pub fn damage(register: &mut [u8], entries: usize) {
+    for area in register.chunks_exact_mut(AREA_BYTES) {
+        area[METER_BYTES + ENTRY_BYTES * entries + 7] = b'Z';
+    }
+}

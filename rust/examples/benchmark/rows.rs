@@ -1,0 +1,116 @@
+//! A row of the tables: a call, the journals that it is made on, and the answer that it gets.
+
+use crate::sides::{Side, LIBRARY, PEER};
+use necktureen::{Number, Submission};
+use std::hint::black_box;
+use std::time::{Duration, Instant};
+
+/// A call without its place.
+#[derive(Clone, Copy)]
+pub enum Made {
+    Enrol { dials: u8, capacity: u32 },
+    Submit(Submission),
+    Withdraw { day: u16, value: u32 },
+    Report,
+    Journal,
+}
+
+impl Made {
+    pub fn word(self) -> &'static str {
+        match self {
+            Made::Enrol { .. } => "enrol",
+            Made::Submit(_) => "submit",
+            Made::Withdraw { .. } => "withdraw",
+            Made::Report => "report",
+            Made::Journal => "journal",
+        }
+    }
+}
+
+pub struct Row {
+    pub call: &'static str,
+    pub case: &'static str,
+    pub entries: usize,
+    /// What the call is answered. The journal call, which answers no number, has that of a report.
+    pub expected: Number,
+    pub made: Made,
+    /// Where the calls go, one after the other.
+    pub places: Vec<u16>,
+    pub register: Vec<u8>,
+}
+
+impl Row {
+    /// How many calls a pass makes.
+    pub fn calls(&self) -> u32 {
+        self.places.len() as u32
+    }
+
+    /// A call that stores or marks a read finds another register the second time.
+    fn changes(&self) -> bool {
+        let stored = [Number::Accepted, Number::Low, Number::High].contains(&self.expected);
+        stored && !matches!(self.made, Made::Report | Made::Journal)
+    }
+
+    /// Holds both sides to the answer that the row names.
+    pub fn check(&self) {
+        for side in [LIBRARY, PEER] {
+            let mut register = self.register.clone();
+            let expected = self.places.iter().all(|&place| self.answer(side, &mut register, place) == self.expected);
+            assert!(expected, "{} {} {}: not answered {}", self.call, self.case, self.entries, self.expected);
+        }
+    }
+
+    fn answer(&self, side: Side, register: &mut [u8], place: u16) -> Number {
+        match self.made {
+            Made::Enrol { dials, capacity } => (side.enrol)(register, place, dials, capacity).number,
+            Made::Submit(read) => (side.submit)(register, place, read).number,
+            Made::Withdraw { day, value } => (side.withdraw)(register, place, day, value).number,
+            Made::Report => (side.report)(register, place).number,
+            Made::Journal if (side.journal)(register, place).is_empty() => Number::NoMeter,
+            Made::Journal => Number::Accepted,
+        }
+    }
+
+    /// Goes through the places so many times, with a call at each, and says how long the calls took.
+    pub fn run(&self, side: Side, passes: u32) -> Duration {
+        match self.made {
+            Made::Enrol { dials, capacity } => self.stretches(passes, |register, place| {
+                let _ = black_box((side.enrol)(register, place, black_box(dials), black_box(capacity)));
+            }),
+            Made::Submit(read) => self.stretches(passes, |register, place| {
+                let _ = black_box((side.submit)(register, place, black_box(read)));
+            }),
+            Made::Withdraw { day, value } => self.stretches(passes, |register, place| {
+                let _ = black_box((side.withdraw)(register, place, black_box(day), black_box(value)));
+            }),
+            Made::Report => self.stretches(passes, |register, place| {
+                let _ = black_box((side.report)(register, place));
+            }),
+            Made::Journal => self.stretches(passes, |register, place| {
+                let _ = black_box((side.journal)(register, place));
+            }),
+        }
+    }
+
+    /// Where calls change the register, it is copied back before each pass, outside the time.
+    fn stretches(&self, passes: u32, call: impl Fn(&mut [u8], u16)) -> Duration {
+        let mut register = self.register.clone();
+        let (stretches, passes) = if self.changes() { (passes, 1) } else { (1, passes) };
+        let mut spent = Duration::ZERO;
+        for _ in 0..stretches {
+            register.copy_from_slice(&self.register);
+            spent += self.stretch(passes, &mut register, &call);
+        }
+        spent
+    }
+
+    fn stretch(&self, passes: u32, register: &mut [u8], call: &impl Fn(&mut [u8], u16)) -> Duration {
+        let begin = Instant::now();
+        for _ in 0..passes {
+            for &place in &self.places {
+                call(black_box(&mut *register), black_box(place));
+            }
+        }
+        begin.elapsed()
+    }
+}
