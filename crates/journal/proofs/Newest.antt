@@ -11,7 +11,7 @@ use Rattle.terms.specs.declared.entry.Slot.the-variants.{Empty}
 use Rattle.terms.specs.Entry.{kindHeld, isStanding, isWithdrawn, isHeld, keepIf, those, slotAt}
 use Rattle.register.specs.declared.head.Head.{Head}
 use Rattle.register.specs.Entries.{entryStart, entryAt}
-use Rattle.journal.specs.declared.judge.Tally.{Tally}
+use Rattle.journal.specs.declared.judge.Summary.{Summary}
 use Rattle.journal.specs.declared.pass.Pass.{Pass}
 use Rattle.journal.specs.declared.run.Run.{Run}
 use Rattle.journal.specs.Journal.{entriesTo, standing, kept, isKept, slotIf, heldOf, isThere, newestAt}
@@ -20,7 +20,7 @@ use Rattle.journal.specs.Inner.Follow.{mayFollow}
 use Rattle.journal.specs.Inner.Run.{runOf}
 use Rattle.journal.specs.Inner.Pass.{passOf}
 use Rattle.journal.specs.Inner.Survey.{countsOf}
-use Rattle.journal.specs.Inner.Judged.{valueOf, tallyOf}
+use Rattle.journal.specs.Inner.Judged.{valueOf, summaryOf}
 use Rattle.journal.proofs.Bools.{false-is, both}
 use Rattle.journal.proofs.Entries.{length-entries}
 use Rattle.journal.proofs.InOrder.{in-order-more}
@@ -93,8 +93,8 @@ kept-all head (e ∷ es) h =
     let before : kept es ≡ length es = rw unheld at (kept-all head es (parts .1)) in
     kept-one (isStanding e) (isWithdrawn e) (isHeld e) e (those isKept es) es before kind (held-only e)
 
--- ---- the tally of a pass
-pub tally-is : (head : Head) (es : List Entry) (p : Pass) {keeps last : ℕ} → p ≡ passOf head es → areInOrder head es ≡ true → keeps ≡ cond (p .held) (p .run .count - 1) (p .run .count) → last ≡ valueOf (slotAt (standing es) 0) → _≡_ {A = Tally} (record {
+-- ---- the summary of a pass
+pub summary-is : (head : Head) (es : List Entry) (p : Pass) {keeps last : ℕ} → p ≡ passOf head es → areInOrder head es ≡ true → keeps ≡ cond (p .held) (p .run .count - 1) (p .run .count) → last ≡ valueOf (slotAt (standing es) 0) → _≡_ {A = Summary} (record {
   head = head;
   counts = record { kept = keeps; standing = p .run .standing; flagged = p .run .flagged; first = p .first; newest = p .run .newest };
   last = last;
@@ -102,6 +102,6 @@ pub tally-is : (head : Head) (es : List Entry) (p : Pass) {keeps last : ℕ} →
   latest = p .run .latest;
   entries = p .run .count;
   ended = p .ended;
-}) (tallyOf (record { head = head; entries = es }))
-unfolding passOf runOf tallyOf countsOf
-tally-is head es p same order keeps last = rw (keeps, last, same, kept-all head es order)
+}) (summaryOf (record { head = head; entries = es }))
+unfolding passOf runOf summaryOf countsOf
+summary-is head es p same order keeps last = rw (keeps, last, same, kept-all head es order)

@@ -6,13 +6,13 @@ use Prim.Native.Nat.{ℕ}
 use Rattle.terms.specs.Number.{accepted, noMeter, damaged}
 use Rattle.journal.specs.declared.judge.Judged.{Judged}
 use Rattle.journal.specs.declared.judge.Judged.the-variants as judge
-use Rattle.journal.specs.declared.judge.Tally.{Tally}
+use Rattle.journal.specs.declared.judge.Summary.{Summary}
 use Rattle.journal.specs.declared.survey.Survey.{Survey}
 use Rattle.journal.specs.declared.survey.Surveyed.{Surveyed}
 use Rattle.journal.specs.declared.survey.Surveyed.the-variants.{Zero, Damaged, Sound}
 use Rattle.journal.specs.Journal.{journalOf, allZero}
 use Rattle.journal.specs.Sound.{isSound}
-use Rattle.journal.specs.Inner.Judged.{tallyOf, judged, judgedNumber, Judges}
+use Rattle.journal.specs.Inner.Judged.{summaryOf, judged, judgedNumber, Judges}
 use Rattle.journal.specs.Inner.Survey.{surveyOf, surveyed, Surveys}
 use Rattle.journal.specs.Numbers.{areaRules, surveyedNumber}
 
@@ -32,7 +32,7 @@ surveys day value area e =
     }
 
 -- the same of a judgement
-by-judgement : (zero sound : Bool) (t : Tally) → judgedNumber (cond zero judge.Zero (cond sound (judge.Sound t) judge.Damaged)) ≡ cond zero noMeter (cond (not sound) damaged accepted)
+by-judgement : (zero sound : Bool) (t : Summary) → judgedNumber (cond zero judge.Zero (cond sound (judge.Sound t) judge.Damaged)) ≡ cond zero noMeter (cond (not sound) damaged accepted)
 unfolding judgedNumber
 by-judgement true sound t = refl
 by-judgement false true t = refl
@@ -43,5 +43,5 @@ unfolding judged areaRules
 judges area e =
     record {
       found-is = e;
-      number-is = λ size. rw (e, size) (by-judgement (allZero area) (isSound area) (tallyOf (journalOf area)));
+      number-is = λ size. rw (e, size) (by-judgement (allZero area) (isSound area) (summaryOf (journalOf area)));
     }

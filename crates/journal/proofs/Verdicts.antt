@@ -14,20 +14,20 @@ use Rattle.register.specs.Head.{headOf, headBytes, mostEntries, bodyOf}
 use Rattle.register.proofs.Body.{body-room, body-lent}
 use Rattle.journal.specs.declared.judge.Judged.{Judged}
 use Rattle.journal.specs.declared.judge.Judged.the-variants as judge
-use Rattle.journal.specs.declared.judge.Tally.{Tally}
+use Rattle.journal.specs.declared.judge.Summary.{Summary}
 use Rattle.journal.specs.declared.pass.Pass.{Pass}
 use Rattle.journal.specs.declared.survey.Survey.{Survey}
 use Rattle.journal.specs.declared.survey.Surveyed.{Surveyed}
 use Rattle.journal.specs.declared.survey.Surveyed.the-variants as survey
 use Rattle.journal.specs.Journal.{Journal, allZero, entriesTo, countFrom, entryCount, journalOf}
 use Rattle.journal.specs.Sound.{isHead, areSound, isSound}
-use Rattle.journal.specs.Inner.Judged.{tallyOf, judged, judgedBody}
+use Rattle.journal.specs.Inner.Judged.{summaryOf, judged, judgedBody}
 use Rattle.journal.specs.Inner.Pass.{IsPassed}
 use Rattle.journal.specs.Inner.Survey.{surveyOf, surveyed}
 use Rattle.journal.proofs.Bools.{both}
 use Rattle.journal.proofs.Entries.{length-entries, count-from-most, count-at-most}
 
-abbrev judges : Bool → Bool → Bool → Tally → Judged
+abbrev judges : Bool → Bool → Bool → Summary → Judged
 judges b z s t = cond (not b) judge.Damaged (cond z judge.Zero (cond s (judge.Sound t) judge.Damaged))
 
 abbrev surveys : Bool → Bool → Bool → Survey → Surveyed
@@ -36,19 +36,19 @@ surveys b z s v = cond (not b) survey.Damaged (cond z survey.Zero (cond s (surve
 no : {A : Type 0} {x y : Judged} → x ≡ y → (x ≡ y → _≡_ {A = ℕ} 0 1) → A
 no h f = absurd (let z = f h in omega arith)
 
-zero-case : (b z s : Bool) (t : Tally) (v : Survey) → judges b z s t ≡ judge.Zero → surveys b z s v ≡ survey.Zero
+zero-case : (b z s : Bool) (t : Summary) (v : Survey) → judges b z s t ≡ judge.Zero → surveys b z s v ≡ survey.Zero
 zero-case false z s t v h = no h (λ e. cc)
 zero-case true true s t v h = refl
 zero-case true false true t v h = no h (λ e. cc)
 zero-case true false false t v h = no h (λ e. cc)
 
-damaged-case : (b z s : Bool) (t : Tally) (v : Survey) → judges b z s t ≡ judge.Damaged → surveys b z s v ≡ survey.Damaged
+damaged-case : (b z s : Bool) (t : Summary) (v : Survey) → judges b z s t ≡ judge.Damaged → surveys b z s v ≡ survey.Damaged
 damaged-case false z s t v h = refl
 damaged-case true true s t v h = no h (λ e. cc)
 damaged-case true false true t v h = no h (λ e. cc)
 damaged-case true false false t v h = refl
 
-sound-case : (b z s : Bool) (t : Tally) {u : Tally} (v : Survey) → judges b z s t ≡ judge.Sound u → (b ≡ true) × (s ≡ true) × (u ≡ t) × (surveys b z s v ≡ survey.Sound v)
+sound-case : (b z s : Bool) (t : Summary) {u : Summary} (v : Survey) → judges b z s t ≡ judge.Sound u → (b ≡ true) × (s ≡ true) × (u ≡ t) × (surveys b z s v ≡ survey.Sound v)
 sound-case false z s t v h = no h (λ e. cc)
 sound-case true true s t v h = no h (λ e. cc)
 sound-case true false true t v h = (refl, refl, cc, refl)
@@ -57,27 +57,27 @@ sound-case true false false t v h = no h (λ e. cc)
 module _ (day value : ℕ) (a : List ℕ) where
   pub zero-is : judged a ≡ judge.Zero → surveyed day value a ≡ survey.Zero
   unfolding judged surveyed
-  zero-is h = zero-case (eqb (length a) areaBytes) (allZero a) (isSound a) (tallyOf (journalOf a)) (surveyOf day value (journalOf a)) h
+  zero-is h = zero-case (eqb (length a) areaBytes) (allZero a) (isSound a) (summaryOf (journalOf a)) (surveyOf day value (journalOf a)) h
 
   pub damaged-is : judged a ≡ judge.Damaged → surveyed day value a ≡ survey.Damaged
   unfolding judged surveyed
-  damaged-is h = damaged-case (eqb (length a) areaBytes) (allZero a) (isSound a) (tallyOf (journalOf a)) (surveyOf day value (journalOf a)) h
+  damaged-is h = damaged-case (eqb (length a) areaBytes) (allZero a) (isSound a) (summaryOf (journalOf a)) (surveyOf day value (journalOf a)) h
 
-  pub sound-is : {t : Tally} → judged a ≡ judge.Sound t → (length a ≡ areaBytes) × (isSound a ≡ true) × (t ≡ tallyOf (journalOf a)) × (surveyed day value a ≡ survey.Sound (surveyOf day value (journalOf a)))
+  pub sound-is : {t : Summary} → judged a ≡ judge.Sound t → (length a ≡ areaBytes) × (isSound a ≡ true) × (t ≡ summaryOf (journalOf a)) × (surveyed day value a ≡ survey.Sound (surveyOf day value (journalOf a)))
   unfolding judged surveyed
   sound-is h =
-      let c = sound-case (eqb (length a) areaBytes) (allZero a) (isSound a) (tallyOf (journalOf a)) (surveyOf day value (journalOf a)) h in
+      let c = sound-case (eqb (length a) areaBytes) (allZero a) (isSound a) (summaryOf (journalOf a)) (surveyOf day value (journalOf a)) h in
       (eqb-true (length a) areaBytes (c .0), c .1, c .2, c .3)
 
 -- ---- a sound area by its head and its body
-module _ (a : List ℕ) (t : Tally) (sound : isSound a ≡ true) (tally : t ≡ tallyOf (journalOf a)) where
+module _ (a : List ℕ) (t : Summary) (sound : isSound a ≡ true) (summary : t ≡ summaryOf (journalOf a)) where
   pub head-is : t .head ≡ headOf a
-  unfolding tallyOf journalOf
-  head-is = ap (λ (u : Tally). u .head) tally
+  unfolding summaryOf journalOf
+  head-is = ap (λ (u : Summary). u .head) summary
 
   entries-are : t .entries ≡ entryCount a
-  unfolding tallyOf journalOf
-  entries-are = ap (λ (u : Tally). u .entries) tally ∙ length-entries (entryCount a) (bodyOf a)
+  unfolding summaryOf journalOf
+  entries-are = ap (λ (u : Summary). u .entries) summary ∙ length-entries (entryCount a) (bodyOf a)
 
   journal-is : journalOf a ≡ record { head = t .head; entries = entriesTo (t .entries) (bodyOf a) }
   unfolding journalOf
@@ -100,8 +100,8 @@ module _ (a : List ℕ) (t : Tally) (sound : isSound a ≡ true) (tally : t ≡ 
     pub lent-journal : journalOf a ≡ record { head = t .head; entries = entriesTo (t .entries) (take (length a - start) (drop start a)) }
     lent-journal = rw (body-lent a start starts) journal-is
 
-    pub lent-sound : (entryStart (t .entries) ≤ length (take (length a - start) (drop start a))) × (areSound (t .head) (entriesTo (t .entries) (take (length a - start) (drop start a))) ≡ true) × (t ≡ tallyOf (record { head = t .head; entries = entriesTo (t .entries) (take (length a - start) (drop start a)) }))
-    lent-sound = (rw (body-lent a start starts) few, rw (body-lent a start starts) body-sound, tally ∙ ap (λ (j : Journal). tallyOf j) lent-journal)
+    pub lent-sound : (entryStart (t .entries) ≤ length (take (length a - start) (drop start a))) × (areSound (t .head) (entriesTo (t .entries) (take (length a - start) (drop start a))) ≡ true) × (t ≡ summaryOf (record { head = t .head; entries = entriesTo (t .entries) (take (length a - start) (drop start a)) }))
+    lent-sound = (rw (body-lent a start starts) few, rw (body-lent a start starts) body-sound, summary ∙ ap (λ (j : Journal). summaryOf j) lent-journal)
 
 -- ---- a body by the pass over it
 module _ {head : Head} {body : List ℕ} (p : Pass) (is : IsPassed head body p) where
@@ -117,9 +117,9 @@ module _ {head : Head} {body : List ℕ} (p : Pass) (is : IsPassed head body p) 
     unfolding judgedBody
     body-unended h = rw (ends-are h)
 
-    pub body-judged : allZero (drop (entryStart (p .run .count)) body) ≡ true → judgedBody head body ≡ judge.Sound (tallyOf (record { head = head; entries = entriesTo (p .run .count) body }))
+    pub body-judged : allZero (drop (entryStart (p .run .count)) body) ≡ true → judgedBody head body ≡ judge.Sound (summaryOf (record { head = head; entries = entriesTo (p .run .count) body }))
     unfolding judgedBody
-    body-judged h = rw (ends-are h, sym (is .sound) ∙ sound) (ap (λ (n : ℕ). judge.Sound (tallyOf (record { head = head; entries = entriesTo n body }))) (sym (is .count sound)))
+    body-judged h = rw (ends-are h, sym (is .sound) ∙ sound) (ap (λ (n : ℕ). judge.Sound (summaryOf (record { head = head; entries = entriesTo n body }))) (sym (is .count sound)))
 
     pub pass-room : entryStart (mostEntries head) ≤ length body → entryStart (p .run .count) ≤ length body
     pass-room room = omega (arith, is .count sound, count-from-most (mostEntries head) body)

@@ -9,12 +9,12 @@ ghost use Rattle.journal.specs.Journal.{entriesTo, standing};
 ghost use Rattle.journal.specs.Sound.{any, hasRead, daysRise};
 ghost use Rattle.journal.specs.Inner.Run.{runOf};
 ghost use Rattle.journal.specs.Inner.Pass.{isOfKind, clashes};
+use crate::found::has_read;
 use crate::order::is_standing;
 use crate::order::is_withdrawn;
 use crate::past::may_have;
 use crate::read::entry_at;
 use crate::run::Run;
-use crate::step::has_read;
 use terms::entry::Entry;
 use terms::entry::Kind;
 

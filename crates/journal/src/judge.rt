@@ -10,7 +10,7 @@ ghost use Rattle.register.specs.Entries.{entryStart};
 ghost use Rattle.register.specs.Head.{headOf, mostEntries};
 ghost use Rattle.journal.specs.Journal.{allZero, entriesTo, standing};
 ghost use Rattle.journal.specs.Sound.{isHead};
-ghost use Rattle.journal.specs.Inner.Judged.{valueOf, tallyOf, judged, judgedBody, Judges};
+ghost use Rattle.journal.specs.Inner.Judged.{valueOf, summaryOf, judged, judgedBody, Judges};
 ghost use Rattle.journal.specs.Inner.Run.{runOf};
 ghost use Rattle.journal.specs.Inner.Pass.{IsPass};
 use crate::pass::Pass;
@@ -38,7 +38,7 @@ pub struct Counts {
     pub newest: u8,
 }
 
-pub struct Tally {
+pub struct Summary {
     pub head: Head,
     pub counts: Counts,
     // The value and the day of the last standing read, and 0 where none stands.
@@ -54,7 +54,7 @@ pub struct Tally {
 pub enum Judged {
     Zero,
     Damaged,
-    Sound(Tally),
+    Sound(Summary),
 }
 
 // The value of the last standing read.
@@ -80,14 +80,14 @@ fn kept_of(count: u8, held: bool) -> u8
 }
 
 // What is counted, once all entries are passed.
-fn tally_of(body: &[u8], head: Head, pass: Pass) -> Tally
+fn summary_of(body: &[u8], head: Head, pass: Pass) -> Summary
     requires { ⌜ (entryStart (pass .run .count) ≤ length (now body)) × (pass .run ≡ runOf (entriesTo (pass .run .count) (now body))) ⌝ }
-    ensures { λ r. ⌜ (IsPass head (now (body .entry)) pass → r ≡ tallyOf (record { head = head; entries = entriesTo (pass .run .count) (now (body .entry)) })) ⌝ }
+    ensures { λ r. ⌜ (IsPass head (now (body .entry)) pass → r ≡ summaryOf (record { head = head; entries = entriesTo (pass .run .count) (now (body .entry)) })) ⌝ }
 {
     let run = pass.run;
     let kept = kept_of(run.count, pass.held);
     let last = last_value(body, run);
-    Tally {
+    Summary {
         head,
         counts: Counts {
             kept,
@@ -124,7 +124,7 @@ fn judge_body(body: &[u8], head: Head) -> Judged
     if !is_zero_from(body, Layout::ENTRY_BYTES * (run.count as usize)) {
         return Judged::Damaged;
     }
-    Judged::Sound(tally_of(body, head, pass))
+    Judged::Sound(summary_of(body, head, pass))
 }
 
 // An area of 512 bytes that are not all zero.

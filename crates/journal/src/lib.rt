@@ -1,5 +1,6 @@
 // The journal: what an area's bytes mean, for any bytes whatever.
 mod apart;
+pub mod found;
 pub mod judge;
 pub mod limits;
 mod marks;
@@ -10,6 +11,5 @@ pub mod plate;
 mod read;
 pub mod run;
 pub mod slot;
-pub mod step;
 pub mod survey;
 pub mod zeros;

@@ -9,18 +9,18 @@ ghost use Rattle.register.specs.Entries.{entryStart, entryAt};
 ghost use Rattle.journal.specs.Journal.{journalOf, entriesTo, standing, heldOf, newestAt};
 ghost use Rattle.journal.specs.Sound.{areSound, isSound};
 ghost use Rattle.journal.specs.Inner.Back.{EndsStanding};
-ghost use Rattle.journal.specs.Inner.Judged.{tallyOf};
+ghost use Rattle.journal.specs.Inner.Judged.{summaryOf};
 ghost use Rattle.journal.specs.Inner.Survey.{foundLast, foundOf, surveyOf, Surveys};
+use crate::found::Found;
+use crate::found::find;
+use crate::found::held_of;
+use crate::found::start_found;
 use crate::judge::Counts;
 use crate::judge::Judged;
-use crate::judge::Tally;
+use crate::judge::Summary;
 use crate::judge::judge_area;
 use crate::past::later;
 use crate::read::entry_at;
-use crate::step::Found;
-use crate::step::find;
-use crate::step::held_of;
-use crate::step::start_found;
 use register::area::Layout;
 use register::head::Head;
 use register::head::head_bytes;
@@ -74,8 +74,8 @@ fn found_last(body: &[u8], newest: u8, value: u32) -> Found
 }
 
 // A day after the last standing and the latest withdrawn read is that of no entry.
-fn found_in(body: &[u8], t: Tally, day: u16, value: u32) -> Found
-    requires { ⌜ (entryStart (t .entries) ≤ length (now body)) × (areSound (t .head) (entriesTo (t .entries) (now body)) ≡ true) × (t ≡ tallyOf (record { head = t .head; entries = entriesTo (t .entries) (now body) })) ⌝ }
+fn found_in(body: &[u8], t: Summary, day: u16, value: u32) -> Found
+    requires { ⌜ (entryStart (t .entries) ≤ length (now body)) × (areSound (t .head) (entriesTo (t .entries) (now body)) ≡ true) × (t ≡ summaryOf (record { head = t .head; entries = entriesTo (t .entries) (now body) })) ⌝ }
     ensures { λ r. ⌜ r ≡ foundOf day value (entriesTo (t .entries) (now (body .entry))) ⌝ }
 {
     if later(t.day, t.latest) < day {
@@ -155,8 +155,8 @@ fn held_over(body: &[u8], m: u8) -> Slot
 }
 
 // The entries that follow a head.
-fn gather(body: &[u8], t: Tally, day: u16, value: u32) -> Survey
-    requires { ⌜ (entryStart (t .entries) ≤ length (now body)) × (areSound (t .head) (entriesTo (t .entries) (now body)) ≡ true) × (t ≡ tallyOf (record { head = t .head; entries = entriesTo (t .entries) (now body) })) ⌝ }
+fn gather(body: &[u8], t: Summary, day: u16, value: u32) -> Survey
+    requires { ⌜ (entryStart (t .entries) ≤ length (now body)) × (areSound (t .head) (entriesTo (t .entries) (now body)) ≡ true) × (t ≡ summaryOf (record { head = t .head; entries = entriesTo (t .entries) (now body) })) ⌝ }
     ensures { λ r. ⌜ r ≡ surveyOf day value (record { head = t .head; entries = entriesTo (t .entries) (now (body .entry)) }) ⌝ }
 {
     let head = t.head;
@@ -176,8 +176,8 @@ fn gather(body: &[u8], t: Tally, day: u16, value: u32) -> Survey
     }
 }
 
-fn survey_sound(area: &[u8], t: Tally, day: u16, value: u32) -> Survey
-    requires { ⌜ (length (now area) ≡ areaBytes) × (isSound (now area) ≡ true) × (t ≡ tallyOf (journalOf (now area))) ⌝ }
+fn survey_sound(area: &[u8], t: Summary, day: u16, value: u32) -> Survey
+    requires { ⌜ (length (now area) ≡ areaBytes) × (isSound (now area) ≡ true) × (t ≡ summaryOf (journalOf (now area))) ⌝ }
     ensures { λ r. ⌜ r ≡ surveyOf day value (journalOf (now (area .entry))) ⌝ }
 {
     let head = t.head;

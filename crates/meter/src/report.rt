@@ -3,13 +3,13 @@ ghost use mathlib.Core.Path.{_≡_};
 ghost use lib.ListN.{length};
 ghost use Rattle.register.specs.Area.{areaBytes};
 ghost use Rattle.journal.specs.Journal.{Journal, standing};
-ghost use Rattle.journal.specs.Inner.Judged.{tallyOf};
+ghost use Rattle.journal.specs.Inner.Judged.{summaryOf};
 ghost use Rattle.calls.specs.Calls.{totalOf, reportIn, acted, done, step};
 use arithmetic::advance::advance;
 use calls::call::Call;
 use calls::call::Reply;
 use journal::judge::Judged;
-use journal::judge::Tally;
+use journal::judge::Summary;
 use journal::judge::judge_area;
 use place::Located;
 use place::locate;
@@ -19,8 +19,8 @@ use terms::answer::refuse_report;
 use terms::number::Number;
 
 // last − first + 10^n × flagged, 0 if none stands.
-fn total(t: Tally) -> i64
-    ensures { λ r. ⌜ ((j : Journal) → t ≡ tallyOf j → r ≡ totalOf (j .head .dials) (standing (j .entries))) ⌝ }
+fn total(t: Summary) -> i64
+    ensures { λ r. ⌜ ((j : Journal) → t ≡ summaryOf j → r ≡ totalOf (j .head .dials) (standing (j .entries))) ⌝ }
 {
     let head = t.head;
     let counts = t.counts;

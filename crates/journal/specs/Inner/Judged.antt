@@ -15,7 +15,7 @@ use Rattle.register.specs.Area.{areaBytes}
 use Rattle.register.specs.declared.head.Head.{Head}
 use Rattle.register.specs.Entries.{entryStart}
 use Rattle.register.specs.Head.{mostEntries}
-use Rattle.journal.specs.declared.judge.Tally.{Tally}
+use Rattle.journal.specs.declared.judge.Summary.{Summary}
 use Rattle.journal.specs.declared.judge.Judged.{Judged}
 use Rattle.journal.specs.declared.judge.Judged.the-variants.{Zero, Damaged, Sound}
 use Rattle.journal.specs.Journal.{Journal, journalOf, allZero, entriesTo, countFrom, standing, withdrawn}
@@ -30,8 +30,8 @@ unfoldable pub valueOf : Slot → ℕ
 valueOf (Read e) = e .value
 valueOf Empty = 0
 
-unfoldable pub tallyOf : Journal → Tally
-tallyOf j =
+unfoldable pub summaryOf : Journal → Summary
+summaryOf j =
     record {
       head = j .head;
       counts = countsOf (j .entries);
@@ -47,14 +47,14 @@ unfoldable pub judged : List ℕ → Judged
 judged area =
     cond (not (eqb (length area) areaBytes))
     Damaged
-    (cond (allZero area) Zero (cond (isSound area) (Sound (tallyOf (journalOf area))) Damaged))
+    (cond (allZero area) Zero (cond (isSound area) (Sound (summaryOf (journalOf area))) Damaged))
 
 -- a body that follows a head
 unfoldable pub judgedBody : Head → List ℕ → Judged
 judgedBody head body =
     let es : List Entry = entriesTo (countFrom (mostEntries head) 0 body) body in
     cond (allZero (drop (entryStart (countFrom (mostEntries head) 0 body)) body) && areSound head es)
-    (Sound (tallyOf (record { head = head; entries = es })))
+    (Sound (summaryOf (record { head = head; entries = es })))
     Damaged
 
 -- the paper's number for each thing that a judgement finds

@@ -11,7 +11,7 @@ use Rattle.terms.specs.Entry.{those, recentOf}
 use Rattle.terms.specs.Rule.{firstBroken}
 use Rattle.register.specs.Area.{areaBytes}
 use Rattle.journal.specs.declared.judge.Counts.{Counts}
-use Rattle.journal.specs.declared.step.Found.{Found}
+use Rattle.journal.specs.declared.found.Found.{Found}
 use Rattle.journal.specs.declared.survey.Survey.{Survey}
 use Rattle.journal.specs.declared.survey.Surveyed.{Surveyed}
 use Rattle.journal.specs.declared.survey.Surveyed.the-variants.{Zero, Damaged, Sound}

@@ -30,8 +30,8 @@ returns-2 c =
     let pass = sound .before .before in
     sym (body-unended _ (pass .pass-over .ensures) (not-false _ (sound .if1 .left)) (sym (zero .is-zero-from .ensures) ∙ not-true _ (c .if2 .taken)))
 
-tally-of-requires : tie.Need-tally-of-requires
-tally-of-requires c κs =
+summary-of-requires : tie.Need-summary-of-requires
+summary-of-requires c κs =
     let sound = c .before .before .before .before in
     let pass = sound .before .before in
     let yes = not-false _ (sound .if1 .left) in
@@ -43,7 +43,7 @@ returns-3 c =
     let sound = zero .before .before .before in
     let pass = sound .before .before in
     let yes = not-false _ (sound .if1 .left) in
-    ap Sound (c .tally-of .ensures (pass .pass-over .ensures .pass yes))
+    ap Sound (c .summary-of .ensures (pass .pass-over .ensures .pass yes))
     ∙ sym (body-judged _ (pass .pass-over .ensures) yes (sym (zero .is-zero-from .ensures) ∙ not-false _ (c .before .if2 .left)))
 
 pub judge-body-spec : {M : Type 1} → statement M
@@ -56,5 +56,5 @@ judge-body-spec =
     mul-is-zero-from
     is-zero-from-requires
     returns-2
-    tally-of-requires
+    summary-of-requires
     returns-3)

@@ -8,12 +8,12 @@ use lib.Dec.{eqb, ltb}
 use lib.ListN.{length}
 use Rattle.terms.specs.declared.entry.Entry.{Entry}
 use Rattle.terms.specs.Entry.{slotAt}
-use Rattle.journal.specs.declared.judge.Tally.{Tally}
+use Rattle.journal.specs.declared.judge.Summary.{Summary}
 use Rattle.journal.specs.Journal.{entriesTo, standing, withdrawn, newestAt}
 use Rattle.journal.specs.Sound.{areInOrder, areSound}
 use Rattle.journal.specs.Inner.Loops.{dayOf}
 use Rattle.journal.specs.Inner.Past.{latestDay}
-use Rattle.journal.specs.Inner.Judged.{tallyOf}
+use Rattle.journal.specs.Inner.Judged.{summaryOf}
 use Rattle.journal.specs.Inner.Survey.{countsOf}
 use Rattle.journal.proofs.Bools.{both}
 use Rattle.journal.proofs.Clashes.{later-both, nothing-found, last-found, some-day}
@@ -30,7 +30,7 @@ start-found-requires : tie.Need-start-found-requires
 start-found-requires c κs = search needs
 
 returns : tie.Need-returns
-unfolding tallyOf areSound
+unfolding summaryOf areSound
 returns c =
     let late = c .before .before in
     let start = late .before .before in
@@ -43,15 +43,15 @@ returns c =
     (start .args .value)
     _
     (days-rise (t .head) _ (both (areInOrder (t .head) _) _ (start .pre .1) .0))
-    (rw (ap (λ (u : Tally). u .day) (start .pre .2)) at (days .0))
-    (rw (ap (λ (u : Tally). u .latest) (start .pre .2)) at (days .1))
+    (rw (ap (λ (u : Summary). u .day) (start .pre .2)) at (days .0))
+    (rw (ap (λ (u : Summary). u .latest) (start .pre .2)) at (days .1))
 
 -- ---- the day of the last standing read
 module _ (c : tie.After-counts) where
   abbrev start : tie.Start
   start = c .before .before .before .before .before .before .before
 
-  abbrev t : Tally
+  abbrev t : Summary
   t = start .args .t
 
   same-day : (t .day ≡ start .args .day) × (t .latest < start .args .day)
@@ -60,20 +60,20 @@ module _ (c : tie.After-counts) where
       (eqb-true _ _ (parts .0), ltb-true _ _ (parts .1))
 
   stands : t .counts .standing ≡ length (standing (entriesTo (t .entries) (start .args .body .now)))
-  unfolding tallyOf countsOf
-  stands = ap (λ (u : Tally). u .counts .standing) (start .pre .2)
+  unfolding summaryOf countsOf
+  stands = ap (λ (u : Summary). u .counts .standing) (start .pre .2)
 
   newest : t .counts .newest ≡ newestAt (entriesTo (t .entries) (start .args .body .now))
-  unfolding tallyOf countsOf
-  newest = ap (λ (u : Tally). u .counts .newest) (start .pre .2)
+  unfolding summaryOf countsOf
+  newest = ap (λ (u : Summary). u .counts .newest) (start .pre .2)
 
   last-day : t .day ≡ dayOf (slotAt (standing (entriesTo (t .entries) (start .args .body .now))) 0)
-  unfolding tallyOf
-  last-day = ap (λ (u : Tally). u .day) (start .pre .2)
+  unfolding summaryOf
+  last-day = ap (λ (u : Summary). u .day) (start .pre .2)
 
   latest-is : t .latest ≡ latestDay (withdrawn (entriesTo (t .entries) (start .args .body .now)))
-  unfolding tallyOf
-  latest-is = ap (λ (u : Tally). u .latest) (start .pre .2)
+  unfolding summaryOf
+  latest-is = ap (λ (u : Summary). u .latest) (start .pre .2)
 
   some : t .counts .standing ≡ 0 → ⊥
   some z = some-day (standing (entriesTo (t .entries) (start .args .body .now))) (omega (arith, last-day, same-day .0, same-day .1)) (sym stands ∙ z)
@@ -82,7 +82,7 @@ found-last-requires : tie.Need-found-last-requires
 found-last-requires c κs = omega (arith, last-below (t c .entries) (start c .args .body .now) (stands c) (newest c) (some c), start c .pre .0)
 
 returns-2 : tie.Need-returns-2
-unfolding tallyOf areSound dayOf slotAt
+unfolding summaryOf areSound dayOf slotAt
 returns-2 c =
     let at = c .before in
     let s = start at in

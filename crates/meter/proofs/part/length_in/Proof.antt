@@ -3,7 +3,7 @@ use mathlib.Core.Path.{_≡_, sym, _∙_}
 use mathlib.Core.List.{[]}
 use Rattle.register.specs.Head.{entryOffset}
 use Rattle.journal.specs.Journal.{journalOf}
-use Rattle.journal.specs.Inner.Judged.{tallyOf}
+use Rattle.journal.specs.Inner.Judged.{summaryOf}
 use Rattle.journal.proofs.Entries.{length-entries}
 use Rattle.journal.proofs.Verdicts.{zero-is, damaged-is, sound-is}
 use Rattle.calls.specs.Checks.{reportChecks}
@@ -44,7 +44,7 @@ returns-2 c =
     rw (damaged-number (λ j. []) 0 0 _ (d .before .before .pre) (damaged-is 0 0 _ (sym (d .judge-area .ensures .found-is) ∙ c .enum-told2 .given .1)))
 
 returns-3 : tie.Need-returns-3
-unfolding lengthIn reportChecks tallyOf journalOf entryOffset
+unfolding lengthIn reportChecks summaryOf journalOf entryOffset
 returns-3 c =
     let t = c .before .before .before in
     let d = t .before .before in

@@ -5,7 +5,7 @@ use borrow.Author.Needs.{sfits-of}
 use mir.Syntax.{w64}
 use mir.ValLaws.{toZ-ofZ}
 use Rattle.journal.specs.Inner.Survey.{countsOf}
-use Rattle.journal.specs.Inner.Judged.{tallyOf}
+use Rattle.journal.specs.Inner.Judged.{summaryOf}
 use Rattle.journal.proofs.Verdicts.{zero-is, damaged-is, sound-is}
 use Rattle.calls.specs.Checks.{reportChecks}
 use Rattle.calls.specs.Calls.{flaggedOf, reportOf, reportIn}
@@ -54,7 +54,7 @@ returns-2 c =
     rw (c .refuse-report2 .ensures, damaged-number (λ j. []) 0 0 _ (d .before .before .pre) (damaged-is 0 0 _ (sym (d .judge-area .ensures .found-is) ∙ c .before .enum-told2 .given .1)))
 
 returns-3 : tie.Need-returns-3
-unfolding reportIn reportChecks reportOf tallyOf countsOf flaggedOf
+unfolding reportIn reportChecks reportOf summaryOf countsOf flaggedOf
 returns-3 c =
     let found = c .before .before .before .before .before in
     let d = found .before .before in

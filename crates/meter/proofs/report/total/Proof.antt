@@ -1,4 +1,4 @@
--- The tally's fields are the journal's, and its last value is that of the first of the standing reads, the newest.
+-- The summary's fields are the journal's, and its last value is that of the first of the standing reads, the newest.
 use mathlib.Core.Path.{_≡_, refl, ap, sym, _∙_}
 use mathlib.Core.List.{List, [], _∷_}
 use Prim.Native.Nat.{ℕ}
@@ -9,9 +9,9 @@ use Rattle.arithmetic.specs.Advance.{advanceOf}
 use Rattle.terms.specs.declared.entry.Entry.{Entry}
 use Rattle.terms.specs.Entry.{slotAt}
 use Rattle.rules.proofs.Laws.{advance-word}
-use Rattle.journal.specs.declared.judge.Tally.{Tally}
+use Rattle.journal.specs.declared.judge.Summary.{Summary}
 use Rattle.journal.specs.Journal.{Journal, standing, firstValue}
-use Rattle.journal.specs.Inner.Judged.{valueOf, tallyOf}
+use Rattle.journal.specs.Inner.Judged.{valueOf, summaryOf}
 use Rattle.journal.specs.Inner.Survey.{countsOf}
 use Rattle.calls.specs.Calls.{flaggedOf, totalOf}
 use borrow.Author.Needs.{needs}
@@ -28,13 +28,13 @@ unfolding totalOf
 total-none n [] none = refl
 total-none n (s ∷ ss) none = absurd (omega arith)
 
-module _ (j : Journal) {t : Tally} (e : t ≡ tallyOf j) where
+module _ (j : Journal) {t : Summary} (e : t ≡ summaryOf j) where
   counted : t .counts .standing ≡ length (standing (j .entries))
-  unfolding tallyOf countsOf
-  counted = ap (λ (u : Tally). u .counts .standing) e
+  unfolding summaryOf countsOf
+  counted = ap (λ (u : Summary). u .counts .standing) e
 
   from-last : (t .counts .standing ≡ 0 → ⊥) → totalOf (j .head .dials) (standing (j .entries)) ≡ advanceOf (t .head .dials) (t .last) (t .counts .flagged) (t .counts .first)
-  unfolding tallyOf countsOf flaggedOf
+  unfolding summaryOf countsOf flaggedOf
   from-last some = rw e (total-last (j .head .dials) (standing (j .entries)) (λ z. some (counted ∙ z)))
 
   from-none : t .counts .standing ≡ 0 → totalOf (j .head .dials) (standing (j .entries)) ≡ pos 0

@@ -4,8 +4,8 @@ use Rattle.terms.specs.Entry.{those}
 use Rattle.journal.specs.Sound.{any}
 use Rattle.journal.specs.Journal.{onDay}
 use Rattle.journal.specs.Inner.Survey.{foundOf}
-use Rattle.journal.proofs.step.start_found.Statement.{statement}
-use Rattle.journal.proofs.step.start_found.Tie as tie
+use Rattle.journal.proofs.found.start_found.Statement.{statement}
+use Rattle.journal.proofs.found.start_found.Tie as tie
 
 returns : tie.Need-returns
 unfolding foundOf onDay any those

@@ -6,8 +6,8 @@ use borrow.Author.Tests.{eq-eqb, ne-eqb}
 use Rattle.journal.specs.Journal.{slotIf}
 use Rattle.journal.proofs.Steps.{found-more, found-other}
 use borrow.Author.Needs.{needs}
-use Rattle.journal.proofs.step.find.Statement.{statement}
-use Rattle.journal.proofs.step.find.Tie as tie
+use Rattle.journal.proofs.found.find.Statement.{statement}
+use Rattle.journal.proofs.found.find.Tie as tie
 
 sameday-is : (c : tie.Joined2) → let s = c .before in let a = s .before .before .before .args in c .if2 .sameday ≡ slotIf (s .is-standing .result) (a .e) (a .found .sameday)
 sameday-is c = ⊎-elim (λ w. rw (w .1, w .0 .taken)) (λ w. rw (w .1, w .0 .left)) (c .if2 .came)

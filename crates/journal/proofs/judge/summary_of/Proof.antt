@@ -1,10 +1,10 @@
 -- Each part is that of the entries passed.
 use Rattle.journal.specs.Sound.{areInOrder, areSound}
 use Rattle.journal.proofs.Bools.{both}
-use Rattle.journal.proofs.Newest.{tally-is}
+use Rattle.journal.proofs.Newest.{summary-is}
 use borrow.Author.Needs.{needs}
-use Rattle.journal.proofs.judge.tally_of.Statement.{statement}
-use Rattle.journal.proofs.judge.tally_of.Tie as tie
+use Rattle.journal.proofs.judge.summary_of.Statement.{statement}
+use Rattle.journal.proofs.judge.summary_of.Tie as tie
 
 kept-of-requires : tie.Need-kept-of-requires
 kept-of-requires c κs = search needs
@@ -18,7 +18,7 @@ returns c =
     let kept = c .before in
     let start = kept .before .before .before in
     λ is.
-    tally-is (start .args .head) _ (start .args .pass) (is .same) (both (areInOrder (start .args .head) _) _ (is .sound) .0) (kept .kept-of .ensures) (c .last-value .ensures)
+    summary-is (start .args .head) _ (start .args .pass) (is .same) (both (areInOrder (start .args .head) _) _ (is .sound) .0) (kept .kept-of .ensures) (c .last-value .ensures)
 
-pub tally-of-spec : {M : Type 1} → statement M
-tally-of-spec = tie.close (tie.spec kept-of-requires last-value-requires returns)
+pub summary-of-spec : {M : Type 1} → statement M
+summary-of-spec = tie.close (tie.spec kept-of-requires last-value-requires returns)

@@ -1,8 +1,8 @@
 -- A held read is the one that is kept, and any other entry leaves none.
 use Rattle.journal.specs.Journal.{heldOf}
 use borrow.Author.Needs.{needs}
-use Rattle.journal.proofs.step.held_of.Statement.{statement}
-use Rattle.journal.proofs.step.held_of.Tie as tie
+use Rattle.journal.proofs.found.held_of.Statement.{statement}
+use Rattle.journal.proofs.found.held_of.Tie as tie
 
 is-held-requires : tie.Need-is-held-requires
 is-held-requires c κs = search needs
