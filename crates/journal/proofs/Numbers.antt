@@ -12,9 +12,9 @@ use Rattle.journal.specs.declared.survey.Surveyed.{Surveyed}
 use Rattle.journal.specs.declared.survey.Surveyed.the-variants.{Zero, Damaged, Sound}
 use Rattle.journal.specs.Journal.{journalOf, allZero}
 use Rattle.journal.specs.Sound.{isSound}
-use Rattle.journal.specs.Inner.Judged.{summaryOf, judged, judgedNumber, Judges}
+use Rattle.journal.specs.Inner.Judged.{summaryOf, judged, Judges}
 use Rattle.journal.specs.Inner.Survey.{surveyOf, surveyed, Surveys}
-use Rattle.journal.specs.Numbers.{areaRules, surveyedNumber}
+use Rattle.journal.specs.Numbers.{areaRules, judgedNumber, surveyedNumber}
 
 -- by the two tests
 by-tests : (zero sound : Bool) (v : Survey) → surveyedNumber (cond zero Zero (cond sound (Sound v) Damaged)) ≡ cond zero noMeter (cond (not sound) damaged accepted)

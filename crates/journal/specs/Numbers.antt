@@ -1,11 +1,13 @@
--- 01, Calls: the numbers of the table that an area alone decides, and the paper's number for each thing that a survey finds.
+-- 01, Calls: the numbers of the table that an area alone decides, and the paper's number for each thing that a judgement or a survey finds.
 use mathlib.Core.Bool.{not}
 use mathlib.Core.List.{List, [], _∷_}
 use Prim.Native.Nat.{ℕ}
 use Rattle.terms.specs.Number.{accepted, noMeter, damaged}
 use Rattle.terms.specs.Rule.{Rule, rule}
+use Rattle.journal.specs.declared.judge.Judged.{Judged}
+use Rattle.journal.specs.declared.judge.Judged.the-variants as judged
 use Rattle.journal.specs.declared.survey.Surveyed.{Surveyed}
-use Rattle.journal.specs.declared.survey.Surveyed.the-variants.{Zero, Damaged, Sound}
+use Rattle.journal.specs.declared.survey.Surveyed.the-variants as surveyed
 use Rattle.journal.specs.Journal.{allZero}
 use Rattle.journal.specs.Sound.{isSound}
 
@@ -13,7 +15,12 @@ use Rattle.journal.specs.Sound.{isSound}
 unfoldable pub areaRules : List ℕ → List Rule
 areaRules area = rule noMeter (allZero area) ∷ rule damaged (not (isSound area)) ∷ []
 
+unfoldable pub judgedNumber : Judged → ℕ
+judgedNumber judged.Zero = noMeter
+judgedNumber judged.Damaged = damaged
+judgedNumber (judged.Sound summary) = accepted
+
 unfoldable pub surveyedNumber : Surveyed → ℕ
-surveyedNumber Zero = noMeter
-surveyedNumber Damaged = damaged
-surveyedNumber (Sound v) = accepted
+surveyedNumber surveyed.Zero = noMeter
+surveyedNumber surveyed.Damaged = damaged
+surveyedNumber (surveyed.Sound survey) = accepted

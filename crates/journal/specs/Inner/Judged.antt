@@ -9,7 +9,6 @@ use Rattle.terms.specs.declared.entry.Entry.{Entry}
 use Rattle.terms.specs.declared.entry.Slot.{Slot}
 use Rattle.terms.specs.declared.entry.Slot.the-variants.{Read, Empty}
 use Rattle.terms.specs.Entry.{slotAt}
-use Rattle.terms.specs.Number.{accepted, noMeter, damaged}
 use Rattle.terms.specs.Rule.{firstBroken}
 use Rattle.register.specs.Area.{areaBytes}
 use Rattle.register.specs.declared.head.Head.{Head}
@@ -19,7 +18,7 @@ use Rattle.journal.specs.declared.judge.Summary.{Summary}
 use Rattle.journal.specs.declared.judge.Judged.{Judged}
 use Rattle.journal.specs.declared.judge.Judged.the-variants.{Zero, Damaged, Sound}
 use Rattle.journal.specs.Journal.{Journal, journalOf, allZero, entriesTo, countFrom, standing, withdrawn}
-use Rattle.journal.specs.Numbers.{areaRules}
+use Rattle.journal.specs.Numbers.{areaRules, judgedNumber}
 use Rattle.journal.specs.Sound.{isSound, areSound, any, isFinalRead}
 use Rattle.journal.specs.Inner.Loops.{dayOf}
 use Rattle.journal.specs.Inner.Past.{latestDay}
@@ -56,12 +55,6 @@ judgedBody head body =
     cond (allZero (drop (entryStart (countFrom (mostEntries head) 0 body)) body) && areSound head es)
     (Sound (summaryOf (record { head = head; entries = es })))
     Damaged
-
--- the paper's number for each thing that a judgement finds
-unfoldable pub judgedNumber : Judged → ℕ
-judgedNumber Zero = noMeter
-judgedNumber Damaged = damaged
-judgedNumber (Sound t) = accepted
 
 -- what a judgement answers: what was found, and with it the number of the area
 pub record Judges (area : List ℕ) (found : Judged) : Type 0 where
