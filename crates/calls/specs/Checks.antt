@@ -115,8 +115,7 @@ isNotLast day value Empty = true
 
 -- ---- THE ORDER OF CHECKS. Every call checks 2 first, and then 3 for a place above 63.
 
--- 3 and 4 are of the area alone
--- and then what a call asks of the journal
+-- 3 and 4, which are of the area alone, and then what a call asks of the journal
 abbrev pub withJournal : (Journal → List Rule) → List ℕ → List Rule
 withJournal rules area = areaRules area ++ rules (journalOf area)
 
