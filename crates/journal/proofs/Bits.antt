@@ -2,7 +2,7 @@
 use mathlib.Core.Path.{_≡_, refl, ap, sym, _∙_}
 use mathlib.Core.Bool.{Bool, true, false, not, _&&_, _||_}
 use Prim.Native.Nat.{ℕ, zero, suc, _+_, _-_, _*_, _/_, _%_, _^_, _≤_, _<_}
-use native.Mathlib.Nat.{mod-lt, mod-eq-of-lt, div-self, one-mul}
+use native.Mathlib.Nat.{mod-lt, mod-eq-of-lt, div-self, zero-div, one-mul}
 use native.Mathlib.Omega.{arith}
 use borrow.Author.Tests.{eqb-true, eq-eqb, leb-true, leb-false, not-true}
 use lib.Bits.{bitOr, or-shr, or-mod, or-comm}
@@ -36,6 +36,10 @@ then-marked marks v =
     let k = v % 64 in
     let own : 2 ^ k / 2 ^ k % 2 ≡ 1 = ap (λ (n : ℕ). n % 2) (div-self (pow-pos k)) in
     eq-eqb _ _ (ap (λ (n : ℕ). n / 2 ^ k % 2) (or-comm marks (2 ^ k)) ∙ set-left (2 ^ k) marks k own)
+
+pub none-has-mark : (v : ℕ) → isMarked 0 v ≡ false
+unfolding isMarked
+none-has-mark v = rw (zero-div (2 ^ (v % 64)))
 
 -- the bit as a shift of 64 bits has it
 pub bit-shifted : (v : ℕ) → (1 * 2 ^ (v % 64)) % 18446744073709551616 ≡ 2 ^ (v % 64)

@@ -14,15 +14,10 @@ use Rattle.register.specs.declared.head.Head.{Head}
 use Rattle.register.specs.Entries.{entryStart, entryAt}
 use Rattle.journal.specs.Journal.{entriesTo, standing, withdrawn, heldOf, onDay}
 use Rattle.journal.specs.Sound.{any, every, hasRead, areApart, areInOrder, areSound, daysRise, isLater, isFinalRead}
-use Rattle.journal.specs.Inner.Follow.{mayFollow}
 use Rattle.journal.specs.Inner.Loops.{dayOf}
-use Rattle.journal.specs.Inner.Marks.{isMarked, markOn}
-use Rattle.journal.specs.Inner.Past.{laterOf, latestDay, marksOf}
-use Rattle.journal.specs.Inner.Pass.{isOfKind, clashes}
+use Rattle.journal.specs.Inner.Past.{laterOf, latestDay, clashes}
 use Rattle.journal.specs.Inner.Survey.{foundLast, foundOf}
 use Rattle.journal.proofs.Bools.{false-is, both, or-none}
-use Rattle.journal.proofs.Bits.{stays-marked, then-marked}
-use Rattle.journal.proofs.InOrder.{in-order-more}
 
 -- ---- one entry more
 eqb-flip : (m n : ℕ) → eqb m n ≡ eqb n m
@@ -68,32 +63,6 @@ pub apart-more : (e : Entry) (es : List Entry) → areApart (standing (e ∷ es)
 unfolding those clashes
 apart-more e es = apart-kept e (isStanding e) (isWithdrawn e) (standing es) (withdrawn es) (stands-unwithdrawn e)
 
--- ---- what is not sound stays so
-lost : (f i n a : Bool) → i && a ≡ false → (f && i) && (n && a) ≡ false
-lost true true true a h = h
-lost true true false a h = refl
-lost true false n a h = refl
-lost false i n a h = refl
-
-module _ (head : Head) (a : List ℕ) where
-  unsound-more : (e : Entry) (es : List Entry) → areSound head es ≡ false → areSound head (e ∷ es) ≡ false
-  unfolding areSound
-  unsound-more e es h = rw (in-order-more, apart-more) (lost (mayFollow head e (slotAt (standing es) 0) (heldOf es) (any isFinalRead (standing es))) (areInOrder head es) (not (clashes e es)) (areApart (standing es) (withdrawn es)) h)
-
-  unsound-after : (k n : ℕ) → areSound head (entriesTo k a) ≡ false → areSound head (entriesTo (n + k) a) ≡ false
-  unfolding entriesTo
-  unsound-after k zero h =
-      let e : zero + k ≡ k = omega arith in
-      rw e h
-  unsound-after k (suc n) h =
-      let e : suc n + k ≡ suc (n + k) = omega arith in
-      rw e (unsound-more (entryAt a (entryStart (n + k))) (entriesTo (n + k) a) (unsound-after k n h))
-
-  pub unsound-stays : (k m : ℕ) → k ≤ m → areSound head (entriesTo k a) ≡ false → areSound head (entriesTo m a) ≡ false
-  unsound-stays k m le h =
-      let e : m - k + k ≡ m = omega arith in
-      rw e at (unsound-after k (m - k) h)
-
 -- ---- when nothing need be compared
 pub later-both : (a b n : ℕ) → laterOf a b < n → (a < n) × (b < n)
 later-both a b n h = cases (ltb a b) refl where
@@ -114,17 +83,6 @@ module _ (day value : ℕ) where
       let days = later-both (latestDay ws) (w .day) day l in
       let other : w .day ≡ day → ⊥ = λ e. omega (arith, days .1) in
       rw (ne-eqb (w .day) day other) (none-as-late ws (days .0))
-
-  -- a value with no mark
-  pub none-marked : (ws : List Entry) → isMarked (marksOf ws) value ≡ false → any (hasRead day value) ws ≡ false
-  unfolding any hasRead marksOf
-  none-marked [] u = refl
-  none-marked (w ∷ ws) u =
-      let other : w .value ≡ value → ⊥ = λ e. false-is (sym u ∙ rw e (then-marked (marksOf ws) value)) in
-      rw (ne-eqb (w .value) value other, and-false) (none-marked ws (unmarked (isMarked (marksOf ws) value) refl)) where
-        unmarked : (b : Bool) → isMarked (marksOf ws) value ≡ b → isMarked (marksOf ws) value ≡ false
-        unmarked true e = false-is (sym u ∙ stays-marked (marksOf ws) (w .value) value e)
-        unmarked false e = e
 
   -- a day after every standing one
   pub none-stands : (ss : List Entry) → daysRise ss ≡ true → dayOf (slotAt ss 0) < day → any (hasRead day value) ss ≡ false
@@ -173,33 +131,3 @@ pub some-day : (ss : List Entry) → 0 < dayOf (slotAt ss 0) → length ss ≡ 0
 unfolding dayOf slotAt
 some-day [] h z = omega arith
 some-day (s ∷ ss) h z = omega arith
-
--- ---- a clash by its parts
-of-standing : (es : List Entry) → those (isOfKind kindStanding) es ≡ standing es
-unfolding those isOfKind isStanding
-of-standing [] = refl
-of-standing (e ∷ es) = rw (of-standing es)
-
-of-withdrawn : (es : List Entry) → those (isOfKind kindWithdrawn) es ≡ withdrawn es
-unfolding those isOfKind isWithdrawn
-of-withdrawn [] = refl
-of-withdrawn (e ∷ es) = rw (of-withdrawn es)
-
-module _ (e : Entry) (es : List Entry) where
-  pub clash-standing : isStanding e ≡ true → clashes e es ≡ any (hasRead (e .day) (e .value)) (withdrawn es)
-  unfolding clashes
-  clash-standing h = rw (h, stands-unwithdrawn e h, or-none)
-
-  pub clash-standing-of : isStanding e ≡ true → clashes e es ≡ any (hasRead (e .day) (e .value)) (those (isOfKind kindWithdrawn) es)
-  clash-standing-of h = rw (of-withdrawn es) (clash-standing h)
-
-  pub clash-withdrawn : isStanding e ≡ false → isWithdrawn e ≡ true → clashes e es ≡ any (hasRead (e .day) (e .value)) (standing es)
-  unfolding clashes
-  clash-withdrawn h w = rw (h, w)
-
-  pub clash-withdrawn-of : isStanding e ≡ false → isWithdrawn e ≡ true → clashes e es ≡ any (hasRead (e .day) (e .value)) (those (isOfKind kindStanding) es)
-  clash-withdrawn-of h w = rw (of-standing es) (clash-withdrawn h w)
-
-  pub clash-other : isStanding e ≡ false → isWithdrawn e ≡ false → clashes e es ≡ false
-  unfolding clashes
-  clash-other h w = rw (h, w)

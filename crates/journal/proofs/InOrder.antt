@@ -2,7 +2,7 @@
 use mathlib.Core.Path.{_≡_, refl, ap}
 use mathlib.Core.Bool.{Bool, true, false, not, _&&_, _||_, and-assoc, and-comm, cond, and-true, and-false}
 use mathlib.Core.List.{List, [], _∷_}
-use Prim.Native.Nat.{ℕ, _<_}
+use Prim.Native.Nat.{ℕ, zero, suc, _+_, _-_, _≤_, _<_}
 use native.Mathlib.Omega.{arith}
 use borrow.Author.Tests.{ltb-true, lt-ltb, eqb-true}
 use lib.Dec.{eqb}
@@ -12,7 +12,8 @@ use Rattle.terms.specs.declared.entry.Slot.{Slot}
 use Rattle.terms.specs.declared.entry.Slot.the-variants.{Read, Empty}
 use Rattle.terms.specs.Entry.{kindStanding, isStanding, isHeld, keepIf, those, slotAt}
 use Rattle.terms.specs.Letter.{isOpening, isHoldable}
-use Rattle.journal.specs.Journal.{standing, slotIf, heldOf, isThere}
+use Rattle.register.specs.Entries.{entryStart, entryAt}
+use Rattle.journal.specs.Journal.{entriesTo, standing, slotIf, heldOf, isThere}
 use Rattle.journal.specs.Sound.{every, any, isRead, daysRise, opensRight, isFinalRead, hasOneFinal, isLater, opens, exists, mayBeHeld, isHeldRight, areInOrder}
 use Rattle.journal.specs.Inner.Follow.{isAfter, mayStand, mayFollow}
 use Rattle.journal.specs.Inner.Loops.{standsBy, followsBy, dayOf}
@@ -150,3 +151,19 @@ by-numbers head e Empty held ended =
     (opens head e && one)
     (isHoldable (e .letter) && (false && one))
     (stands-unheld e)
+
+-- ---- what is not in order stays so
+module _ (head : Head) (a : List ℕ) where
+  disordered-after : (k n : ℕ) → areInOrder head (entriesTo k a) ≡ false → areInOrder head (entriesTo (n + k) a) ≡ false
+  unfolding entriesTo
+  disordered-after k zero h =
+      let e : zero + k ≡ k = omega arith in
+      rw e h
+  disordered-after k (suc n) h =
+      let e : suc n + k ≡ suc (n + k) = omega arith in
+      rw (e, in-order-more head (entryAt a (entryStart (n + k))) (entriesTo (n + k) a), disordered-after k n h, and-false)
+
+  pub disordered-stays : (k m : ℕ) → k ≤ m → areInOrder head (entriesTo k a) ≡ false → areInOrder head (entriesTo m a) ≡ false
+  disordered-stays k m le h =
+      let e : m - k + k ≡ m = omega arith in
+      rw e at (disordered-after k (m - k) h)

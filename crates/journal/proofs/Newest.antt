@@ -6,6 +6,7 @@ use Prim.Native.Nat.{ℕ, zero, suc, _+_, _-_, _≤_, _<_}
 use native.Mathlib.Omega.{arith}
 use borrow.Author.Tests.{eqb-true, not-true}
 use lib.ListN.{length}
+use Rattle.arithmetic.specs.Powers.{tenTo}
 use Rattle.terms.specs.declared.entry.Entry.{Entry}
 use Rattle.terms.specs.declared.entry.Slot.the-variants.{Empty}
 use Rattle.terms.specs.Entry.{kindHeld, isStanding, isWithdrawn, isHeld, keepIf, those, slotAt}
@@ -94,14 +95,16 @@ kept-all head (e ∷ es) h =
     kept-one (isStanding e) (isWithdrawn e) (isHeld e) e (those isKept es) es before kind (held-only e)
 
 -- ---- the summary of a pass
-pub summary-is : (head : Head) (es : List Entry) (p : Pass) {keeps last : ℕ} → p ≡ passOf head es → areInOrder head es ≡ true → keeps ≡ cond (p .held) (p .run .count - 1) (p .run .count) → last ≡ valueOf (slotAt (standing es) 0) → _≡_ {A = Summary} (record {
+pub summary-is : (head : Head) (es : List Entry) (p : Pass) {keeps last limit : ℕ} → p ≡ passOf head es → areInOrder head es ≡ true → keeps ≡ cond (p .held) (p .run .count - 1) (p .run .count) → last ≡ valueOf (slotAt (standing es) 0) → limit ≡ tenTo (head .dials) → _≡_ {A = Summary} (record {
   head = head;
   counts = record { kept = keeps; standing = p .run .standing; flagged = p .run .flagged; first = p .first; newest = p .run .newest };
   last = last;
   day = p .run .day;
   latest = p .run .latest;
+  marks = p .run .marks;
+  limit = limit;
   entries = p .run .count;
   ended = p .ended;
 }) (summaryOf (record { head = head; entries = es }))
 unfolding passOf runOf summaryOf countsOf
-summary-is head es p same order keeps last = rw (keeps, last, same, kept-all head es order)
+summary-is head es p same order keeps last limit = rw (keeps, last, limit, same, kept-all head es order)

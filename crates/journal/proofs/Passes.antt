@@ -1,6 +1,6 @@
 -- The pass after one entry more, and how it ends.
 use mathlib.Core.Path.{_≡_, refl, sym, ap, _∙_}
-use mathlib.Core.Bool.{Bool, true, false, not, _&&_, _||_, cond, and-true, and-false}
+use mathlib.Core.Bool.{Bool, true, false, not, _&&_, _||_, cond, and-false}
 use mathlib.Core.List.{List, [], _∷_}
 use Prim.Native.Nat.{ℕ, _+_, _-_, _≤_, _<_}
 use native.Mathlib.Numerals.{add-one}
@@ -17,22 +17,22 @@ use Rattle.journal.specs.declared.limits.Limits.{Limits}
 use Rattle.journal.specs.declared.pass.Pass.{Pass}
 use Rattle.journal.specs.declared.run.Run.{Run}
 use Rattle.register.specs.Head.{mostEntries}
-use Rattle.journal.specs.Journal.{entriesTo, countFrom, standing, withdrawn, heldOf, isThere, firstValue}
-use Rattle.journal.specs.Sound.{every, any, isFinalRead, holds, takes, opens, isInRange, isRead, daysRise, opensRight, hasOneFinal, isHeldRight, areInOrder, areApart, areSound}
+use Rattle.journal.specs.Journal.{entriesTo, countFrom, standing, heldOf, isThere, firstValue}
+use Rattle.journal.specs.Sound.{every, any, isFinalRead, holds, takes, opens, isInRange, isRead, daysRise, opensRight, hasOneFinal, isHeldRight, areInOrder}
 use Rattle.journal.specs.Inner.Loops.{standsBy, followsBy, dayOf}
+use Rattle.journal.specs.Inner.Past.{marksOf, mayHave}
 use Rattle.journal.specs.Inner.Run.{runOf}
 use Rattle.journal.specs.Inner.Plain.{IsLimits, IsOpen, RunsTo}
-use Rattle.journal.specs.Inner.Pass.{passOf, clashes, IsPass, IsPassed, First, Starts}
-use Rattle.journal.proofs.Bools.{false-is, both}
-use Rattle.journal.proofs.Clashes.{stands-unwithdrawn, apart-more, unsound-stays}
+use Rattle.journal.specs.Inner.Pass.{passOf, IsPass, IsPassed, First, Starts}
+use Rattle.journal.proofs.Bits.{none-has-mark}
 use Rattle.journal.proofs.Entries.{any-kept, one-more, length-entries, count-on}
-use Rattle.journal.proofs.InOrder.{in-order-more, by-numbers, days-rise, stands-unheld}
+use Rattle.journal.proofs.InOrder.{in-order-more, by-numbers, days-rise, stands-unheld, disordered-stays}
 use Rattle.journal.proofs.Runs.{there-kept, first-kept, held-there}
 
 pub pass-more : (head : Head) (e : Entry) (es : List Entry) → passOf head (e ∷ es) ≡ record {
   run = runOf (e ∷ es);
   first = cond (isStanding e && not (passOf head es .stands)) (e .value) (passOf head es .first);
-  sound = followsBy head e (passOf head es .stands) (passOf head es .run .day) (passOf head es .held) (passOf head es .ended) && passOf head es .sound;
+  ordered = followsBy head e (passOf head es .stands) (passOf head es .run .day) (passOf head es .held) (passOf head es .ended) && passOf head es .ordered;
   stands = isStanding e || passOf head es .stands;
   held = isHeld e;
   ended = (isStanding e && isFinalRead e) || passOf head es .ended;
@@ -44,7 +44,7 @@ pub pass-run : {p : Pass} (head : Head) (es : List Entry) → p ≡ passOf head 
 unfolding passOf
 pass-run head es h = ap (λ (q : Pass). q .run) h
 
--- ---- one entry on, which may follow and clashes with none
+-- ---- one entry on
 module _ (head : Head) (body : List ℕ) (e : Entry) (k : ℕ) (read : e ≡ entryAt body (entryStart k)) where
   abbrev es : List Entry
   es = entriesTo k body
@@ -52,61 +52,54 @@ module _ (head : Head) (body : List ℕ) (e : Entry) (k : ℕ) (read : e ≡ ent
   on : entriesTo (k + 1) body ≡ e ∷ es
   on = rw (one-more k body, ← read)
 
-  pub entry-pass : (p : Pass) → p ≡ passOf head (e ∷ es) → p .sound ≡ true → clashes e es ≡ false → areSound head es ≡ true → p .run .count ≡ k + 1 → IsPass head body p
-  unfolding areSound passOf
-  entry-pass p same sound free before count =
+  order-is : (p : Pass) → p ≡ passOf head (e ∷ es) → areInOrder head (entriesTo (k + 1) body) ≡ p .ordered
+  unfolding passOf
+  order-is p same = rw on (sym (ap (λ (q : Pass). q .ordered) same))
+
+  -- one that may follow
+  pub entry-pass : (p : Pass) → p ≡ passOf head (e ∷ es) → p .ordered ≡ true → p .run .count ≡ k + 1 → IsPass head body p
+  entry-pass p same order count =
       record {
         same = same ∙ ap (λ (xs : List Entry). passOf head xs) (sym (ap (λ (n : ℕ). entriesTo n body) count ∙ on));
-        sound = rw (count, on, apart-more, free, both (areInOrder head es) _ before .1, and-true) (sym (ap (λ (q : Pass). q .sound) same) ∙ sound);
+        ordered = rw count (order-is p same ∙ order);
       }
 
-  -- one that may not follow, or that clashes, ends it
-  pub entry-ends : (m : ℕ) → k + 1 ≤ m → (p : Pass) → p ≡ passOf head (e ∷ es) → not (p .sound) || clashes e es ≡ true → areSound head (entriesTo m body) ≡ false
-  unfolding areSound passOf
-  entry-ends m le p same bad = unsound-stays head body (k + 1) m le (rw (on, apart-more) (ends (areInOrder head (e ∷ es)) (clashes e es) (areApart (standing es) (withdrawn es)) (rw same at bad))) where
-    ends : (s c a : Bool) → not s || c ≡ true → s && (not c && a) ≡ false
-    ends true true a h = refl
-    ends true false a h = false-is h
-    ends false c a h = refl
+  -- one that may not ends it
+  pub entry-ends : (m : ℕ) → k + 1 ≤ m → (p : Pass) → p ≡ passOf head (e ∷ es) → p .ordered ≡ false → areInOrder head (entriesTo m body) ≡ false
+  entry-ends m le p same bad = disordered-stays head body (k + 1) m le (order-is p same ∙ bad)
 
 -- ---- the pass and what is open
 pub pass-open : {head : Head} {body : List ℕ} (p : Pass) → IsPass head body p → p .stands ≡ true → p .held ≡ false → IsOpen head (p .first) (p .ended) (entriesTo (p .run .count) body)
 unfolding passOf
 pass-open p is s h =
     record {
-      sound = is .sound;
+      ordered = is .ordered;
       stands = sym (ap (λ (q : Pass). q .stands) (is .same)) ∙ s;
       unheld = sym (ap (λ (q : Pass). q .held) (is .same)) ∙ h;
       first-is = sym (ap (λ (q : Pass). q .first) (is .same));
       ended-is = sym (ap (λ (q : Pass). q .ended) (is .same));
     }
 
-pub open-pass : {head : Head} {body : List ℕ} {first : ℕ} {ended : Bool} (run : Run) → run ≡ runOf (entriesTo (run .count) body) → IsOpen head first ended (entriesTo (run .count) body) → IsPass head body (record { run = run; first = first; sound = true; stands = true; held = false; ended = ended })
-unfolding passOf areSound
-open-pass {head} {body} run is op =
-    record {
-      same = rw (← is, op .stands, op .unheld, op .first-is, op .ended-is, both (areInOrder head (entriesTo (run .count) body)) _ (op .sound) .0);
-      sound = op .sound;
-    }
+pub open-pass : {head : Head} {body : List ℕ} {first : ℕ} {ended : Bool} (run : Run) → run ≡ runOf (entriesTo (run .count) body) → IsOpen head first ended (entriesTo (run .count) body) → IsPass head body (record { run = run; first = first; ordered = true; stands = true; held = false; ended = ended })
+unfolding passOf
+open-pass run is op = record { same = rw (← is, op .stands, op .unheld, op .first-is, op .ended-is, op .ordered); ordered = op .ordered }
 
 -- ---- where the pass starts, and where it has passed all
 pub pass-start : (head : Head) (body : List ℕ) (p : Pass) → p ≡ passOf head [] → (p .run .count ≡ 0) × IsPass head body p
-unfolding passOf runOf areSound areInOrder areApart every daysRise opensRight hasOneFinal isHeldRight those entriesTo
+unfolding passOf runOf areInOrder every daysRise opensRight hasOneFinal isHeldRight those entriesTo
 pass-start head body p h =
     let none : p .run .count ≡ 0 = ap (λ (q : Pass). q .run .count) h in
-    (none, record { same = h ∙ ap (λ (k : ℕ). passOf head (entriesTo k body)) (sym none); sound = rw none })
+    (none, record { same = h ∙ ap (λ (k : ℕ). passOf head (entriesTo k body)) (sym none); ordered = rw none })
 
 pub pass-count : (head : Head) (e : Entry) (k : ℕ) (body : List ℕ) (p : Pass) → p ≡ passOf head (e ∷ entriesTo k body) → p .run .count ≡ k + 1
 unfolding passOf runOf
 pass-count head e k body p h = ap (λ (q : Pass). q .run .count) h ∙ rw (length-entries k body, add-one)
 
 pub all-passed : (head : Head) (body : List ℕ) (p : Pass) {l : Limits} {at : ℕ} → IsLimits head l → at ≡ p .run .count → IsPass head body p → countFrom (l .most - at) at body ≡ at → countFrom (l .most - at) at body ≡ countFrom (l .most) 0 body → IsPassed head body p
-unfolding passOf areSound
+unfolding passOf
 all-passed head body p limits same is ends goes =
-    let es = entriesTo (p .run .count) body in
     let all : p .run .count ≡ countFrom (mostEntries head) 0 body = sym same ∙ sym ends ∙ goes ∙ ap (λ (m : ℕ). countFrom m 0 body) (limits .most) in
-    let sound : p .sound ≡ true = ap (λ (q : Pass). q .sound) (is .same) ∙ both (areInOrder head es) _ (is .sound) .0 in
-    record { sound = sound ∙ sym (ap (λ (n : ℕ). areSound head (entriesTo n body)) (sym all) ∙ is .sound); count = λ h. all; pass = λ h. is }
+    record { ordered = ap (λ (q : Pass). q .ordered) (is .same) ∙ ap (λ (n : ℕ). areInOrder head (entriesTo n body)) all; count = λ h. all; pass = λ h. is }
 
 pub start-goes : (most : ℕ) (body : List ℕ) → countFrom (most - 0) 0 body ≡ countFrom most 0 body
 start-goes most body =
@@ -117,8 +110,7 @@ pub next-goes : {most at k : ℕ} (body : List ℕ) → at < most → (byteAt bo
 next-goes {most} {at} body h some goes same = rw same at (sym (count-on most at body h some) ∙ goes)
 
 pub pass-rises : {head : Head} {body : List ℕ} {p : Pass} → IsPass head body p → daysRise (standing (entriesTo (p .run .count) body)) ≡ true
-unfolding areSound
-pass-rises {head} {body} {p} is = days-rise head _ (both (areInOrder head (entriesTo (p .run .count) body)) _ (is .sound) .0)
+pass-rises {head} is = days-rise head _ (is .ordered)
 
 -- ---- the read that opens a journal
 opening-is : (l : ℕ) → isOpening l ≡ true → (isKnown l ≡ true) × (isFinal l ≡ false)
@@ -148,10 +140,10 @@ module _ {head : Head} {l : Limits} {e : Entry} (limits : IsLimits head l) (firs
   first-follows = rw (read-is, first .stands, first .opening, first .flag, opening-is (e .letter) (first .opening) .1)
 
   pub first-open : IsOpen head (e .value) false (e ∷ [])
-  unfolding areSound areInOrder areApart every any those heldOf isThere slotAt dayOf firstValue clashes daysRise opensRight hasOneFinal isHeldRight
+  unfolding areInOrder every any those heldOf isThere slotAt dayOf firstValue daysRise opensRight hasOneFinal isHeldRight
   first-open =
       record {
-        sound = rw (in-order-more head e [], by-numbers, first-follows, apart-more e [], first .stands, stands-unwithdrawn e (first .stands));
+        ordered = rw (in-order-more head e [], by-numbers, first-follows);
         stands = rw (first .stands);
         unheld = rw (stands-unheld e (first .stands));
         first-is = rw (first .stands);
@@ -161,6 +153,13 @@ module _ {head : Head} {l : Limits} {e : Entry} (limits : IsLimits head l) (firs
 pub start-zero : {run : Run} → run ≡ runOf [] → (run .count ≡ 0) × (run .standing ≡ 0) × (run .flagged ≡ 0)
 unfolding runOf those
 start-zero h = (ap (λ (r : Run). r .count) h, ap (λ (r : Run). r .standing) h, ap (λ (r : Run). r .flagged) h)
+
+-- nothing is withdrawn, so nothing has a mark
+pub start-free : {run : Run} (day value : ℕ) → run ≡ runOf [] → false ≡ mayHave (run .latest) (run .marks) day value
+unfolding runOf marksOf mayHave
+start-free {run} day value h =
+    let none : run .marks ≡ 0 = ap (λ (r : Run). r .marks) h in
+    rw (none, none-has-mark value, and-false)
 
 -- a pass that starts with nothing, and with the read that opens
 module _ (body : List ℕ) (l : Limits) where
@@ -178,7 +177,7 @@ module _ (body : List ℕ) (l : Limits) where
   unfolding entriesTo
   first-run run read one is = is ∙ ap (λ (xs : List Entry). runOf xs) (sym (ap (λ (k : ℕ). entriesTo k body) one ∙ rw (← read)))
 
-  pub starts-first : {e : Entry} {opened run : Run} → e ≡ entryAt body (entryStart 0) → First (l .limit) e → 0 < l .most → opened .count ≡ 1 → RunsTo body l opened run → Starts body l (record { run = run; first = e .value; sound = true; stands = true; held = false; ended = false })
+  pub starts-first : {e : Entry} {opened run : Run} → e ≡ entryAt body (entryStart 0) → First (l .limit) e → 0 < l .most → opened .count ≡ 1 → RunsTo body l opened run → Starts body l (record { run = run; first = e .value; ordered = true; stands = true; held = false; ended = false })
   unfolding entriesTo entryAt isStanding
   starts-first {e} {opened} {run} read first some one runs =
       let kind : byteAt body (entryStart 0) ≡ 0 → ⊥ = λ z. (let k : e .kind ≡ 2 = eqb-true _ _ (first .stands) in let n : e .kind ≡ 0 = rw read z in omega arith) in

@@ -6,6 +6,7 @@ use Prim.Native.Nat.{ℕ, suc, _+_, _-_, _≤_, _<_}
 use native.Mathlib.Numerals.{add-one}
 use native.Mathlib.Omega.{arith}
 use borrow.Author.Tests.{lt-ltb, le-leb, ne-eqb, eqb-true}
+use lib.Dec.{leb}
 use lib.ListN.{length}
 use Rattle.terms.specs.declared.entry.Entry.{Entry}
 use Rattle.terms.specs.Entry.{kindStanding, kindWithdrawn, isStanding, isWithdrawn, isHeld, keepIf, those, slotAt}
@@ -16,17 +17,15 @@ use Rattle.register.specs.Entries.{entryStart, entryAt}
 use Rattle.journal.specs.declared.limits.Limits.{Limits}
 use Rattle.journal.specs.declared.run.Run.{Run}
 use Rattle.journal.specs.Journal.{entriesTo, countFrom, standing, withdrawn, slotIf, heldOf, isThere, isFlagged, firstValue, newestAt}
-use Rattle.journal.specs.Sound.{any, hasRead, isFinalRead, holds, isInRange, isRead, areInOrder, areApart, areSound}
+use Rattle.journal.specs.Sound.{any, isFinalRead, holds, isInRange, isRead, areInOrder}
 use Rattle.journal.specs.Inner.Loops.{standsBy, followsBy, dayOf}
 use Rattle.journal.specs.Inner.Marks.{markOn}
-use Rattle.journal.specs.Inner.Past.{laterOf, latestDay, marksOf}
+use Rattle.journal.specs.Inner.Past.{laterOf, latestDay, liveMarks, marksOf, mayHave, mayClash, mayHaveClash}
 use Rattle.journal.specs.Inner.Run.{runOf, plainTo}
 use Rattle.journal.specs.Inner.Plain.{PlainLetter, IsLimits, PlainBody, Plain, IsOpen, OneOn, RunsTo}
-use Rattle.journal.specs.Inner.Pass.{clashes}
-use Rattle.journal.proofs.Bools.{both}
-use Rattle.journal.proofs.Clashes.{stands-unwithdrawn, withdrawn-unstanding, apart-more, none-as-late, none-stands, clash-standing, clash-withdrawn}
+use Rattle.journal.proofs.Clashes.{stands-unwithdrawn, withdrawn-unstanding}
 use Rattle.journal.proofs.Entries.{any-kept, one-more, length-entries, those-at-most, count-on}
-use Rattle.journal.proofs.InOrder.{in-order-more, by-numbers, days-rise, stands-unheld}
+use Rattle.journal.proofs.InOrder.{in-order-more, by-numbers, stands-unheld}
 
 -- ---- a list with one entry more, if the entry is kept
 length-kept : (b : Bool) (e : Entry) (es : List Entry) → length (keepIf b e es) ≡ cond b (length es + 1) (length es)
@@ -37,11 +36,6 @@ flagged-kept : (b : Bool) (e : Entry) (es : List Entry) → length (those isFlag
 unfolding those
 flagged-kept true e es = length-kept (isFlagged e) e (those isFlagged es)
 flagged-kept false e es = refl
-
-marks-kept : (b : Bool) (e : Entry) (ws : List Entry) → marksOf (keepIf b e ws) ≡ cond b (markOn (marksOf ws) (e .value)) (marksOf ws)
-unfolding marksOf
-marks-kept true e ws = refl
-marks-kept false e ws = refl
 
 latest-kept : (b : Bool) (e : Entry) (ws : List Entry) → latestDay (keepIf b e ws) ≡ cond b (laterOf (latestDay ws) (e .day)) (latestDay ws)
 unfolding latestDay
@@ -71,16 +65,17 @@ held-there false e = refl
 
 -- ---- what is kept
 pub run-more : (e : Entry) (es : List Entry) → runOf (e ∷ es) ≡ record {
-  marks = cond (isWithdrawn e) (markOn (runOf es .marks) (e .value)) (runOf es .marks);
+  marks = cond (isWithdrawn e) (markOn (liveMarks (runOf es .day) (runOf es .latest) (runOf es .marks)) (e .value)) (runOf es .marks);
   latest = cond (isWithdrawn e) (laterOf (runOf es .latest) (e .day)) (runOf es .latest);
   day = cond (isStanding e) (e .day) (runOf es .day);
   count = runOf es .count + 1;
   standing = cond (isStanding e) (runOf es .standing + 1) (runOf es .standing);
   flagged = cond (isStanding e && isFlagged e) (runOf es .flagged + 1) (runOf es .flagged);
   newest = cond (isStanding e) (runOf es .count) (runOf es .newest);
+  doubt = ((isStanding e && mayHave (runOf es .latest) (runOf es .marks) (e .day) (e .value)) || (isWithdrawn e && leb (e .day) (runOf es .day))) || runOf es .doubt;
 }
-unfolding runOf those newestAt
-run-more e es = simp (length-kept, flagged-kept, marks-kept, latest-kept, day-kept, ← add-one)
+unfolding runOf those newestAt marksOf mayClash mayHaveClash
+run-more e es = simp (length-kept, flagged-kept, latest-kept, day-kept, ← add-one)
 
 -- no count is more than that of the entries
 pub run-small : (run : Run) (k : ℕ) (a : List ℕ) → run ≡ runOf (entriesTo k a) → (run .count ≡ k) × (run .standing ≤ run .count) × (run .flagged ≤ run .standing)
@@ -94,13 +89,9 @@ module _ {run : Run} (es : List Entry) (is : run ≡ runOf es) where
   unfolding runOf
   run-day = ap (λ (r : Run). r .day) is
 
-  pub run-latest : run .latest ≡ latestDay (withdrawn es)
+  pub run-doubt : run .doubt ≡ mayHaveClash es
   unfolding runOf
-  run-latest = ap (λ (r : Run). r .latest) is
-
-  pub run-marks : run .marks ≡ marksOf (withdrawn es)
-  unfolding runOf
-  run-marks = ap (λ (r : Run). r .marks) is
+  run-doubt = ap (λ (r : Run). r .doubt) is
 
 -- ---- a plain body may follow where a read stands and none is held
 pub withdrawn-unheld : (e : Entry) → isWithdrawn e ≡ true → isHeld e ≡ false
@@ -134,19 +125,14 @@ module _ {head : Head} {l : Limits} {last : ℕ} {e : Entry} (is : IsLimits head
   follows-withdrawn ended w = rw (withdrawn-unstanding e w, w, withdrawn-unheld e w, range-is)
 
 module _ {head : Head} {l : Limits} {e : Entry} {first : ℕ} {ended : Bool} (es : List Entry) (is : IsLimits head l) (b : PlainBody l (dayOf (slotAt (standing es) 0)) e) (op : IsOpen head first ended es) where
-  in-order : areInOrder head es ≡ true
-  unfolding areSound
-  in-order = both (areInOrder head es) _ (op .sound) .0
+  order-more : followsBy head e true (dayOf (slotAt (standing es) 0)) false (any isFinalRead (standing es)) ≡ true → areInOrder head (e ∷ es) ≡ true
+  order-more follows = rw (in-order-more, by-numbers, op .stands, op .unheld, follows) (op .ordered)
 
-  sound-more : followsBy head e true (dayOf (slotAt (standing es) 0)) false (any isFinalRead (standing es)) ≡ true → clashes e es ≡ false → areSound head (e ∷ es) ≡ true
-  unfolding areSound
-  sound-more follows free = rw (in-order-more, by-numbers, op .stands, op .unheld, follows, apart-more, free) (op .sound)
-
-  open-standing : isStanding e ≡ true → any (hasRead (e .day) (e .value)) (withdrawn es) ≡ false → IsOpen head first ended (e ∷ es)
+  open-standing : isStanding e ≡ true → IsOpen head first ended (e ∷ es)
   unfolding those heldOf
-  open-standing s free =
+  open-standing s =
       record {
-        sound = sound-more (follows-standing is b (any isFinalRead (standing es)) s) (clash-standing e es s ∙ free);
+        ordered = order-more (follows-standing is b (any isFinalRead (standing es)) s);
         stands = rw (s, there-kept);
         unheld = rw (held-there, stands-unheld e s);
         first-is = rw (s, first-kept true e (standing es), op .stands) (op .first-is);
@@ -157,9 +143,8 @@ module _ {head : Head} {l : Limits} {e : Entry} {first : ℕ} {ended : Bool} (es
   unfolding those heldOf
   open-withdrawn w =
       let s = withdrawn-unstanding e w in
-      let apart = clash-withdrawn e es s w ∙ none-stands (e .day) (e .value) (standing es) (days-rise head es in-order) (b .later) in
       record {
-        sound = sound-more (follows-withdrawn is b (any isFinalRead (standing es)) w) apart;
+        ordered = order-more (follows-withdrawn is b (any isFinalRead (standing es)) w);
         stands = rw s (op .stands);
         unheld = rw (held-there, withdrawn-unheld e w);
         first-is = rw s (op .first-is);
@@ -172,14 +157,14 @@ module _ {l : Limits} (run : Run) (e : Entry) (r : Run) (b : PlainBody l (run .d
   unfolding runOf
   body-of es h = rw h at b
 
-  pub stand-one : isStanding e ≡ true → ((ws : List Entry) → run .latest ≡ latestDay ws → run .marks ≡ marksOf ws → any (hasRead (e .day) (e .value)) ws ≡ false) → OneOn l run e r
-  unfolding isStanding runOf
-  stand-one s free =
+  pub stand-one : isStanding e ≡ true → OneOn l run e r
+  unfolding isStanding
+  stand-one s =
       record {
         count = one;
         kind = λ z. (let k : e .kind ≡ 2 = eqb-true _ _ s in omega arith);
         run-is = more;
-        opened = λ head first ended es is h op. open-standing es is (body-of es h) op s (free (withdrawn es) (rw h) (rw h));
+        opened = λ head first ended es is h op. open-standing es is (body-of es h) op s;
       }
 
   pub withdraw-one : isWithdrawn e ≡ true → OneOn l run e r
@@ -219,16 +204,16 @@ plain-start run h =
     rw (same, ← h)
 
 pub plain-one : {l : Limits} {e : Entry} (from : Run) (k day : ℕ) → from .count ≤ k → from .latest ≤ day → Plain l day e → OneOn l (plainTo from k day) e (plainTo from (k + 1) (e .day))
-unfolding plainTo isFlagged
+unfolding plainTo isFlagged mayHave
 plain-one {l} {e} from k day h late p =
     let s = p .stands in
     let before = plainTo from k day in
     let after = plainTo from (k + 1) (e .day) in
+    let after-all : from .latest < e .day = omega (arith, p .body .later) in
     let more : (es : List Entry) → before ≡ runOf es → after ≡ runOf (e ∷ es) =
     λ es is.
     (let stand : from .standing + (k + 1 - from .count) ≡ from .standing + (k - from .count) + 1 = omega arith in
     let newest : k + 1 - 1 ≡ k = omega arith in
-    rw (run-more, ← is, s, stands-unwithdrawn e s, p .body .flag, stand, newest))
+    rw (run-more, ← is, s, stands-unwithdrawn e s, p .body .flag, lt-ltb _ _ after-all, stand, newest))
     in
-    let after-all : from .latest < e .day = omega (arith, p .body .later) in
-    stand-one before e after (p .body) refl more s (λ ws latest marks. none-as-late (e .day) (e .value) ws (rw latest at after-all))
+    stand-one before e after (p .body) refl more s

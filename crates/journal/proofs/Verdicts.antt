@@ -7,6 +7,7 @@ use native.Mathlib.Omega.{arith}
 use borrow.Author.Tests.{eqb-true}
 use lib.Dec.{eqb}
 use lib.ListN.{length, take, drop}
+use Rattle.terms.specs.declared.entry.Entry.{Entry}
 use Rattle.register.specs.Area.{areaBytes}
 use Rattle.register.specs.Entries.{entryStart}
 use Rattle.register.specs.declared.head.Head.{Head}
@@ -19,8 +20,8 @@ use Rattle.journal.specs.declared.pass.Pass.{Pass}
 use Rattle.journal.specs.declared.survey.Survey.{Survey}
 use Rattle.journal.specs.declared.survey.Surveyed.{Surveyed}
 use Rattle.journal.specs.declared.survey.Surveyed.the-variants as survey
-use Rattle.journal.specs.Journal.{Journal, allZero, entriesTo, countFrom, entryCount, journalOf}
-use Rattle.journal.specs.Sound.{isHead, areSound, isSound}
+use Rattle.journal.specs.Journal.{Journal, allZero, entriesTo, countFrom, entryCount, journalOf, standing, withdrawn}
+use Rattle.journal.specs.Sound.{isHead, areApart, areSound, isSound}
 use Rattle.journal.specs.Inner.Judged.{summaryOf, judged, judgedBody}
 use Rattle.journal.specs.Inner.Pass.{IsPassed}
 use Rattle.journal.specs.Inner.Survey.{surveyOf, surveyed}
@@ -105,21 +106,35 @@ module _ (a : List ℕ) (t : Summary) (sound : isSound a ≡ true) (summary : t 
 
 -- ---- a body by the pass over it
 module _ {head : Head} {body : List ℕ} (p : Pass) (is : IsPassed head body p) where
-  pub body-unsound : p .sound ≡ false → judgedBody head body ≡ judge.Damaged
-  unfolding judgedBody
-  body-unsound h = rw (sym (is .sound) ∙ h, and-false)
+  pub body-disordered : p .ordered ≡ false → judgedBody head body ≡ judge.Damaged
+  unfolding judgedBody areSound
+  body-disordered h = rw (sym (is .ordered) ∙ h, and-false)
 
-  module _ (sound : p .sound ≡ true) where
-    ends-are : {ends : Bool} → allZero (drop (entryStart (p .run .count)) body) ≡ ends → allZero (drop (entryStart (countFrom (mostEntries head) 0 body)) body) ≡ ends
-    ends-are h = ap (λ (n : ℕ). allZero (drop (entryStart n) body)) (sym (is .count sound)) ∙ h
+  module _ (order : p .ordered ≡ true) where
+    abbrev es : List Entry
+    es = entriesTo (p .run .count) body
+
+    abbrev all : ℕ
+    all = countFrom (mostEntries head) 0 body
+
+    whole : (b : Bool) → areApart (standing es) (withdrawn es) ≡ b → areSound head (entriesTo all body) ≡ b
+    unfolding areSound
+    whole b h = rw (sym (is .ordered) ∙ order) (ap (λ (n : ℕ). areApart (standing (entriesTo n body)) (withdrawn (entriesTo n body))) (sym (is .count order)) ∙ h)
+
+    ends-are : {ends : Bool} → allZero (drop (entryStart (p .run .count)) body) ≡ ends → allZero (drop (entryStart all) body) ≡ ends
+    ends-are h = ap (λ (n : ℕ). allZero (drop (entryStart n) body)) (sym (is .count order)) ∙ h
+
+    pub body-clashing : areApart (standing es) (withdrawn es) ≡ false → judgedBody head body ≡ judge.Damaged
+    unfolding judgedBody
+    body-clashing h = rw (whole false h, and-false)
 
     pub body-unended : allZero (drop (entryStart (p .run .count)) body) ≡ false → judgedBody head body ≡ judge.Damaged
     unfolding judgedBody
     body-unended h = rw (ends-are h)
 
-    pub body-judged : allZero (drop (entryStart (p .run .count)) body) ≡ true → judgedBody head body ≡ judge.Sound (summaryOf (record { head = head; entries = entriesTo (p .run .count) body }))
+    pub body-judged : areApart (standing es) (withdrawn es) ≡ true → allZero (drop (entryStart (p .run .count)) body) ≡ true → judgedBody head body ≡ judge.Sound (summaryOf (record { head = head; entries = es }))
     unfolding judgedBody
-    body-judged h = rw (ends-are h, sym (is .sound) ∙ sound) (ap (λ (n : ℕ). judge.Sound (summaryOf (record { head = head; entries = entriesTo n body }))) (sym (is .count sound)))
+    body-judged apart h = rw (ends-are h, whole true apart) (ap (λ (n : ℕ). judge.Sound (summaryOf (record { head = head; entries = entriesTo n body }))) (sym (is .count order)))
 
     pub pass-room : entryStart (mostEntries head) ≤ length body → entryStart (p .run .count) ≤ length body
-    pass-room room = omega (arith, is .count sound, count-from-most (mostEntries head) body)
+    pass-room room = omega (arith, is .count order, count-from-most (mostEntries head) body)

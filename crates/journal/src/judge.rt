@@ -3,6 +3,7 @@ ghost use mathlib.Core.Path.{_≡_};
 ghost use mathlib.Core.Bool.{false, cond};
 ghost use Prim.Native.Nat.{_-_, _≤_};
 ghost use lib.ListN.{length};
+ghost use Rattle.arithmetic.specs.Powers.{tenTo};
 ghost use Rattle.terms.specs.Entry.{slotAt};
 ghost use Rattle.register.specs.Area.{areaBytes};
 ghost use Rattle.register.specs.declared.head.Head.{Head};
@@ -13,6 +14,8 @@ ghost use Rattle.journal.specs.Sound.{isHead};
 ghost use Rattle.journal.specs.Inner.Judged.{valueOf, summaryOf, judged, judgedBody, Judges};
 ghost use Rattle.journal.specs.Inner.Run.{runOf};
 ghost use Rattle.journal.specs.Inner.Pass.{IsPass};
+use crate::apart::is_apart;
+use crate::limits::limits_of;
 use crate::pass::Pass;
 use crate::pass::pass_over;
 use crate::plate::is_plate;
@@ -46,6 +49,10 @@ pub struct Summary {
     pub day: u16,
     // The latest day of a withdrawn read, and 0 where there is none.
     pub latest: u16,
+    // A bit for each value of a withdrawn read that a later standing one may have.
+    pub marks: u64,
+    // What the dials hold, 10^n, which is looked up once.
+    pub limit: u32,
     pub entries: u8,
     // An F stands.
     pub ended: bool,
@@ -80,9 +87,9 @@ fn kept_of(count: u8, held: bool) -> u8
 }
 
 // What is counted, once all entries are passed.
-fn summary_of(body: &[u8], head: Head, pass: Pass) -> Summary
+fn summary_of(body: &[u8], head: Head, limit: u32, pass: Pass) -> Summary
     requires { ⌜ (entryStart (pass .run .count) ≤ length (now body)) × (pass .run ≡ runOf (entriesTo (pass .run .count) (now body))) ⌝ }
-    ensures { λ r. ⌜ (IsPass head (now (body .entry)) pass → r ≡ summaryOf (record { head = head; entries = entriesTo (pass .run .count) (now (body .entry)) })) ⌝ }
+    ensures { λ r. ⌜ (limit ≡ tenTo (head .dials) → IsPass head (now (body .entry)) pass → r ≡ summaryOf (record { head = head; entries = entriesTo (pass .run .count) (now (body .entry)) })) ⌝ }
 {
     let run = pass.run;
     let kept = kept_of(run.count, pass.held);
@@ -99,6 +106,8 @@ fn summary_of(body: &[u8], head: Head, pass: Pass) -> Summary
         last,
         day: run.day,
         latest: run.latest,
+        marks: run.marks,
+        limit,
         entries: run.count,
         ended: pass.ended,
     }
@@ -116,15 +125,19 @@ fn judge_body(body: &[u8], head: Head) -> Judged
     requires { ⌜ entryStart (mostEntries head) ≤ length (now body) ⌝ }
     ensures { λ r. ⌜ r ≡ judgedBody head (now (body .entry)) ⌝ }
 {
-    let pass = pass_over(body, head);
-    if !pass.sound {
+    let limits = limits_of(head);
+    let pass = pass_over(body, head, limits);
+    if !pass.ordered {
         return Judged::Damaged;
     }
     let run = pass.run;
+    if !is_apart(body, head, run) {
+        return Judged::Damaged;
+    }
     if !is_zero_from(body, Layout::ENTRY_BYTES * (run.count as usize)) {
         return Judged::Damaged;
     }
-    Judged::Sound(summary_of(body, head, pass))
+    Judged::Sound(summary_of(body, head, limits.limit, pass))
 }
 
 // An area of 512 bytes that are not all zero.

@@ -8,13 +8,11 @@ ghost use Rattle.arithmetic.specs.Powers.{tenTo};
 ghost use Rattle.terms.specs.declared.entry.Entry.{Entry};
 ghost use Rattle.register.specs.declared.head.Head.{Head};
 ghost use Rattle.register.specs.Entries.{entryStart};
-ghost use Rattle.register.specs.Head.{mostEntries};
 ghost use Rattle.journal.specs.Journal.{entriesTo};
 ghost use Rattle.journal.specs.Inner.Run.{runOf};
+ghost use Rattle.journal.specs.Inner.Plain.{IsLimits};
 ghost use Rattle.journal.specs.Inner.Pass.{passOf, First, Starts, PassesTo, IsPassed};
-use crate::apart::is_clash;
 use crate::limits::Limits;
-use crate::limits::limits_of;
 use crate::order::is_final;
 use crate::order::is_held;
 use crate::order::is_standing;
@@ -34,8 +32,8 @@ pub struct Pass {
     pub run: Run,
     // The value of the first standing read.
     pub first: u32,
-    // Sound but for what compares standing and withdrawn reads.
-    pub sound: bool,
+    // In order: sound but for what compares standing and withdrawn reads.
+    pub ordered: bool,
     // A read stands.
     pub stands: bool,
     // The newest entry is held.
@@ -51,7 +49,7 @@ fn start_pass() -> Pass
     Pass {
         run,
         first: 0,
-        sound: true,
+        ordered: true,
         stands: false,
         held: false,
         ended: false,
@@ -81,7 +79,7 @@ fn advance(pass: Pass, limit: u32, e: Entry) -> Pass
     Pass {
         run: counted,
         first,
-        sound: follows & pass.sound,
+        ordered: follows & pass.ordered,
         stands: stands | pass.stands,
         held: is_held(e),
         ended: (stands & is_final(e)) | pass.ended,
@@ -123,12 +121,12 @@ fn open_over(body: &[u8], limits: Limits) -> Pass
     if !is_first(limits.limit, e) {
         return start;
     }
-    let opened = stand(start.run, 0, e);
+    let opened = stand(start.run, 0, false, e);
     let run = plain_over(body, limits, opened);
     Pass {
         run,
         first: e.value,
-        sound: true,
+        ordered: true,
         stands: true,
         held: false,
         ended: false,
@@ -148,34 +146,33 @@ fn pass_plain(body: &[u8], limits: Limits, pass: Pass) -> Pass
     Pass {
         run,
         first: pass.first,
-        sound: true,
+        ordered: true,
         stands: true,
         held: false,
         ended: pass.ended,
     }
 }
 
-// The same, not sound.
-fn unsound(pass: Pass) -> Pass
-    ensures { λ r. ⌜ r .sound ≡ false ⌝ }
+// The same, not in order.
+fn disordered(pass: Pass) -> Pass
+    ensures { λ r. ⌜ r .ordered ≡ false ⌝ }
 {
     let run = pass.run;
     Pass {
         run,
         first: pass.first,
-        sound: false,
+        ordered: false,
         stands: pass.stands,
         held: pass.held,
         ended: pass.ended,
     }
 }
 
-// Whether the entries that follow a head are sound, to the first zero kind byte. It ends at the first that is not.
-pub(crate) fn pass_over(body: &[u8], head: Head) -> Pass
-    requires { ⌜ entryStart (mostEntries head) ≤ length (now body) ⌝ }
+// Whether the entries of a body are in order, to the first zero kind byte. It ends at the first that is not.
+pub(crate) fn pass_over(body: &[u8], head: Head, limits: Limits) -> Pass
+    requires { ⌜ (entryStart (limits .most) ≤ length (now body)) × IsLimits head limits ⌝ }
     ensures { λ r. ⌜ IsPassed head (now (body .entry)) r ⌝ }
 {
-    let limits = limits_of(head);
     let mut pass = open_over(body, limits);
     let opened = pass.run;
     let mut at = opened.count;
@@ -185,8 +182,8 @@ pub(crate) fn pass_over(body: &[u8], head: Head) -> Pass
             return pass;
         }
         let next = advance(pass, limits.limit, e);
-        if !next.sound | is_clash(body, pass.run, e) {
-            return unsound(next);
+        if !next.ordered {
+            return disordered(next);
         }
         pass = pass_plain(body, limits, next);
         let run = pass.run;

@@ -1,10 +1,6 @@
 // What is kept of the withdrawn reads, so that few standing ones are compared with them: the latest day, and 64 marks by value.
 ghost use mathlib.Core.Path.{_≡_};
-ghost use mathlib.Core.Bool.{false};
-ghost use mathlib.Core.List.{List};
-ghost use Rattle.terms.specs.declared.entry.Entry.{Entry};
-ghost use Rattle.journal.specs.Sound.{any, hasRead};
-ghost use Rattle.journal.specs.Inner.Past.{laterOf, latestDay, marksOf};
+ghost use Rattle.journal.specs.Inner.Past.{laterOf, liveMarks, mayHave};
 use crate::marks::is_marked;
 
 // The later of two days.
@@ -17,9 +13,19 @@ pub(crate) fn later(a: u16, b: u16) -> u16
     a
 }
 
-// Whether a withdrawn read may have this day and value: never no wrongly.
+// The marks that are still wanted: none, once no withdrawn read is later than the last standing one.
+pub(crate) fn live_marks(day: u16, latest: u16, marks: u64) -> u64
+    ensures { λ r. ⌜ r ≡ liveMarks day latest marks ⌝ }
+{
+    if day < latest {
+        return marks;
+    }
+    0
+}
+
+// Whether a withdrawn read may have this day and value.
 pub(crate) fn may_have(latest: u16, marks: u64, day: u16, value: u32) -> bool
-    ensures { λ r. ⌜ (r ≡ false → (ws : List Entry) → latest ≡ latestDay ws → marks ≡ marksOf ws → any (hasRead day value) ws ≡ false) ⌝ }
+    ensures { λ r. ⌜ r ≡ mayHave latest marks day value ⌝ }
 {
     if latest < day {
         return false;

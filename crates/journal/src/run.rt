@@ -9,6 +9,7 @@ ghost use Rattle.terms.specs.declared.entry.Entry.{Entry};
 ghost use Rattle.terms.specs.Entry.{isStanding, isWithdrawn};
 ghost use Rattle.register.specs.Entries.{entryStart};
 ghost use Rattle.journal.specs.Journal.{entriesTo, isFlagged};
+ghost use Rattle.journal.specs.Inner.Past.{mayHave};
 ghost use Rattle.journal.specs.Inner.Run.{runOf, plainTo};
 ghost use Rattle.journal.specs.Inner.Plain.{PlainBody, Plain, OneOn, RunsTo};
 use crate::limits::Limits;
@@ -17,6 +18,7 @@ use crate::marks::mark;
 use crate::order::is_standing;
 use crate::order::is_withdrawn;
 use crate::past::later;
+use crate::past::live_marks;
 use crate::past::may_have;
 use crate::read::entry_at;
 use terms::entry::Entry;
@@ -24,7 +26,7 @@ use terms::submission::Indicator;
 
 // What is kept of some of the entries.
 pub struct Run {
-    // A bit for each value of a withdrawn read.
+    // A bit for each value of a withdrawn read that a later standing one may have.
     pub marks: u64,
     // The latest day of a withdrawn read, and 0 where there is none.
     pub latest: u16,
@@ -35,6 +37,8 @@ pub struct Run {
     pub standing: u8,
     pub flagged: u8,
     pub newest: u8,
+    // A standing and a withdrawn read may have the same day and value.
+    pub doubt: bool,
 }
 
 pub(crate) fn start_run() -> Run
@@ -48,6 +52,7 @@ pub(crate) fn start_run() -> Run
         standing: 0,
         flagged: 0,
         newest: 0,
+        doubt: false,
     }
 }
 
@@ -62,35 +67,43 @@ fn flagged_with(flagged: u8, e: Entry) -> u8
     flagged
 }
 
-// One standing read more.
-pub(crate) fn stand(run: Run, flagged: u8, e: Entry) -> Run
+// One standing read more, and whether it may clash.
+pub(crate) fn stand(run: Run, flagged: u8, doubt: bool, e: Entry) -> Run
     requires { ⌜ (run .count < 255) × (run .standing ≤ run .count) ⌝ }
-    ensures { λ r. ⌜ (r .count ≡ run .count + 1) × ((es : List Entry) → isStanding e ≡ true → flagged ≡ cond (isFlagged e) (run .flagged + 1) (run .flagged) → run ≡ runOf es → r ≡ runOf (e ∷ es)) ⌝ }
+    ensures { λ r. ⌜ (r .count ≡ run .count + 1) × ((es : List Entry) → isStanding e ≡ true → flagged ≡ cond (isFlagged e) (run .flagged + 1) (run .flagged) → doubt ≡ mayHave (run .latest) (run .marks) (e .day) (e .value) → run ≡ runOf es → r ≡ runOf (e ∷ es)) ⌝ }
 {
+    let count = run.count + 1;
+    let standing = run.standing + 1;
     Run {
         marks: run.marks,
         latest: run.latest,
         day: e.day,
-        count: run.count + 1,
-        standing: run.standing + 1,
+        count,
+        standing,
         flagged,
         newest: run.count,
+        doubt: doubt | run.doubt,
     }
 }
 
-// One withdrawn read more.
+// One withdrawn read more. Where it is not later than the last standing one, it may clash with any of those.
 fn withdraw(run: Run, e: Entry) -> Run
     requires { ⌜ run .count < 255 ⌝ }
     ensures { λ r. ⌜ (r .count ≡ run .count + 1) × ((es : List Entry) → isWithdrawn e ≡ true → run ≡ runOf es → r ≡ runOf (e ∷ es)) ⌝ }
 {
+    let live = live_marks(run.day, run.latest, run.marks);
+    let marks = mark(live, e.value);
+    let latest = later(run.latest, e.day);
+    let count = run.count + 1;
     Run {
-        marks: mark(run.marks, e.value),
-        latest: later(run.latest, e.day),
+        marks,
+        latest,
         day: run.day,
-        count: run.count + 1,
+        count,
         standing: run.standing,
         flagged: run.flagged,
         newest: run.newest,
+        doubt: (e.day <= run.day) | run.doubt,
     }
 }
 
@@ -100,19 +113,27 @@ pub(crate) fn count(run: Run, e: Entry) -> Run
     ensures { λ r. ⌜ ((es : List Entry) → run ≡ runOf es → r ≡ runOf (e ∷ es)) ⌝ }
 {
     if is_standing(e) {
-        return stand(run, flagged_with(run.flagged, e), e);
+        let flagged = flagged_with(run.flagged, e);
+        return stand(
+            run,
+            flagged,
+            may_have(run.latest, run.marks, e.day, e.value),
+            e,
+        );
     }
     if is_withdrawn(e) {
         return withdraw(run, e);
     }
+    let count = run.count + 1;
     Run {
         marks: run.marks,
         latest: run.latest,
         day: run.day,
-        count: run.count + 1,
+        count,
         standing: run.standing,
         flagged: run.flagged,
         newest: run.newest,
+        doubt: run.doubt,
     }
 }
 
@@ -143,7 +164,7 @@ fn is_plain(limits: Limits, last: u16, e: Entry) -> bool
     is_plain_body(limits, last, e)
 }
 
-// One entry more, if it is plain and clashes with none; else the run as it was.
+// One entry more, if it is plain; else the run as it was.
 fn run_on(run: Run, limits: Limits, e: Entry) -> Run
     requires { ⌜ (run .count < 255) × (run .standing ≤ run .count) ⌝ }
     ensures { λ r. ⌜ ((r .count ≡ run .count → ⊥) → OneOn limits run e r) ⌝ }
@@ -152,10 +173,12 @@ fn run_on(run: Run, limits: Limits, e: Entry) -> Run
         if !is_plain_body(limits, run.day, e) {
             return run;
         }
-        if may_have(run.latest, run.marks, e.day, e.value) {
-            return run;
-        }
-        return stand(run, run.flagged, e);
+        return stand(
+            run,
+            run.flagged,
+            may_have(run.latest, run.marks, e.day, e.value),
+            e,
+        );
     }
     if !is_withdrawn(e) {
         return run;
@@ -206,6 +229,7 @@ fn plain_to(from: Run, k: u8, day: u16) -> Run
         standing: from.standing + (k - from.count),
         flagged: from.flagged,
         newest: one_less(k),
+        doubt: from.doubt,
     }
 }
 

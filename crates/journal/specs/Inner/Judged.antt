@@ -5,6 +5,7 @@ use mathlib.Core.List.{List}
 use Prim.Native.Nat.{ℕ, _+_}
 use lib.Dec.{eqb}
 use lib.ListN.{length, drop}
+use Rattle.arithmetic.specs.Powers.{tenTo}
 use Rattle.terms.specs.declared.entry.Entry.{Entry}
 use Rattle.terms.specs.declared.entry.Slot.{Slot}
 use Rattle.terms.specs.declared.entry.Slot.the-variants.{Read, Empty}
@@ -20,8 +21,7 @@ use Rattle.journal.specs.declared.judge.Judged.the-variants.{Zero, Damag
 use Rattle.journal.specs.Journal.{Journal, journalOf, allZero, entriesTo, countFrom, standing, withdrawn}
 use Rattle.journal.specs.Numbers.{areaRules, judgedNumber}
 use Rattle.journal.specs.Sound.{isSound, areSound, any, isFinalRead}
-use Rattle.journal.specs.Inner.Loops.{dayOf}
-use Rattle.journal.specs.Inner.Past.{latestDay}
+use Rattle.journal.specs.Inner.Past.{latestDay, lastDay, marksOf}
 use Rattle.journal.specs.Inner.Survey.{countsOf}
 
 -- the value of a read, and 0 where there is none
@@ -35,8 +35,10 @@ summaryOf j =
       head = j .head;
       counts = countsOf (j .entries);
       last = valueOf (slotAt (standing (j .entries)) 0);
-      day = dayOf (slotAt (standing (j .entries)) 0);
+      day = lastDay (j .entries);
       latest = latestDay (withdrawn (j .entries));
+      marks = marksOf (j .entries);
+      limit = tenTo (j .head .dials);
       entries = length (j .entries);
       ended = any isFinalRead (standing (j .entries));
     }

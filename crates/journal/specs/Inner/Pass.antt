@@ -1,18 +1,17 @@
 -- What the pass over a body's entries carries, and what is true of it.
 use mathlib.Core.Path.{_≡_}
-use mathlib.Core.Bool.{Bool, true, _&&_, _||_}
+use mathlib.Core.Bool.{true}
 use mathlib.Core.List.{List}
 use Prim.Native.Nat.{ℕ, _-_, _≤_, _<_}
-use lib.Dec.{eqb}
 use Rattle.terms.specs.declared.entry.Entry.{Entry}
-use Rattle.terms.specs.Entry.{isStanding, isWithdrawn, slotAt}
+use Rattle.terms.specs.Entry.{isStanding, slotAt}
 use Rattle.terms.specs.Letter.{isOpening}
 use Rattle.register.specs.declared.head.Head.{Head}
 use Rattle.register.specs.Head.{mostEntries}
 use Rattle.journal.specs.declared.limits.Limits.{Limits}
 use Rattle.journal.specs.declared.pass.Pass.{Pass}
-use Rattle.journal.specs.Journal.{entriesTo, countFrom, standing, withdrawn, heldOf, isThere, firstValue}
-use Rattle.journal.specs.Sound.{any, hasRead, isFinalRead, areInOrder, areApart, areSound}
+use Rattle.journal.specs.Journal.{entriesTo, countFrom, standing, heldOf, isThere, firstValue}
+use Rattle.journal.specs.Sound.{any, isFinalRead, areInOrder}
 use Rattle.journal.specs.Inner.Run.{runOf}
 use Rattle.journal.specs.Inner.Plain.{IsLimits}
 
@@ -21,31 +20,22 @@ passOf head es =
     record {
       run = runOf es;
       first = firstValue (standing es);
-      sound = areInOrder head es;
+      ordered = areInOrder head es;
       stands = isThere (slotAt (standing es) 0);
       held = isThere (heldOf es);
       ended = any isFinalRead (standing es);
     }
 
-unfoldable pub isOfKind : ℕ → Entry → Bool
-isOfKind kind e = eqb (e .kind) kind
-
--- an entry has the day and the value of a withdrawn one, if it stands, and of a standing one, if it is withdrawn
-unfoldable pub clashes : Entry → List Entry → Bool
-clashes e es =
-    (isStanding e && any (hasRead (e .day) (e .value)) (withdrawn es))
-    || (isWithdrawn e && any (hasRead (e .day) (e .value)) (standing es))
-
--- the first entries of a body are sound, and the pass is of these
+-- the first entries of a body are in order, and the pass is of these
 pub record IsPass (head : Head) (body : List ℕ) (p : Pass) : Type 0 where
   pub same : p ≡ passOf head (entriesTo (p .run .count) body)
-  pub sound : areSound head (entriesTo (p .run .count) body) ≡ true
+  pub ordered : areInOrder head (entriesTo (p .run .count) body) ≡ true
 
--- whether all entries of a body are sound, and if so the pass over them
+-- whether all entries of a body are in order, and if so the pass over them
 pub record IsPassed (head : Head) (body : List ℕ) (p : Pass) : Type 0 where
-  pub sound : p .sound ≡ areSound head (entriesTo (countFrom (mostEntries head) 0 body) body)
-  pub count : p .sound ≡ true → p .run .count ≡ countFrom (mostEntries head) 0 body
-  pub pass : p .sound ≡ true → IsPass head body p
+  pub ordered : p .ordered ≡ areInOrder head (entriesTo (countFrom (mostEntries head) 0 body) body)
+  pub count : p .ordered ≡ true → p .run .count ≡ countFrom (mostEntries head) 0 body
+  pub pass : p .ordered ≡ true → IsPass head body p
 
 -- a read that opens a journal, with no indicator
 pub record First (limit : ℕ) (e : Entry) : Type 0 where

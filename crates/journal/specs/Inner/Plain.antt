@@ -12,7 +12,7 @@ use Rattle.register.specs.Head.{mostEntries}
 use Rattle.journal.specs.declared.limits.Limits.{Limits}
 use Rattle.journal.specs.declared.run.Run.{Run}
 use Rattle.journal.specs.Journal.{entriesTo, countFrom, standing, heldOf, isThere, firstValue}
-use Rattle.journal.specs.Sound.{any, isFinalRead, takes, areSound}
+use Rattle.journal.specs.Sound.{any, isFinalRead, takes, areInOrder}
 use Rattle.journal.specs.Inner.Marks.{hasLetter}
 use Rattle.journal.specs.Inner.Run.{runOf}
 
@@ -40,9 +40,9 @@ pub record Plain (l : Limits) (last : ℕ) (e : Entry) : Type 0 where
   pub stands : isStanding e ≡ true
   pub body : PlainBody l last e
 
--- some entries are sound, a read stands, and none is held; the value of the first that stands, and whether an F does
+-- some entries are in order, a read stands, and none is held; the value of the first that stands, and whether an F does
 pub record IsOpen (head : Head) (first : ℕ) (ended : Bool) (es : List Entry) : Type 0 where
-  pub sound : areSound head es ≡ true
+  pub ordered : areInOrder head es ≡ true
   pub stands : isThere (slotAt (standing es) 0) ≡ true
   pub unheld : isThere (heldOf es) ≡ false
   pub first-is : firstValue (standing es) ≡ first

@@ -3,22 +3,22 @@ use mathlib.Core.List.{List}
 use Prim.Native.Nat.{ℕ, _+_, _-_}
 use lib.ListN.{length}
 use Rattle.terms.specs.declared.entry.Entry.{Entry}
-use Rattle.terms.specs.Entry.{those, slotAt}
+use Rattle.terms.specs.Entry.{those}
 use Rattle.journal.specs.declared.run.Run.{Run}
 use Rattle.journal.specs.Journal.{standing, withdrawn, isFlagged, newestAt}
-use Rattle.journal.specs.Inner.Loops.{dayOf}
-use Rattle.journal.specs.Inner.Past.{latestDay, marksOf}
+use Rattle.journal.specs.Inner.Past.{latestDay, lastDay, marksOf, mayHaveClash}
 
 unfoldable pub runOf : List Entry → Run
 runOf es =
     record {
-      marks = marksOf (withdrawn es);
+      marks = marksOf es;
       latest = latestDay (withdrawn es);
-      day = dayOf (slotAt (standing es) 0);
+      day = lastDay es;
       count = length es;
       standing = length (standing es);
       flagged = length (those isFlagged (standing es));
       newest = newestAt es;
+      doubt = mayHaveClash es;
     }
 
 -- a run after plain standing reads alone, to a count and a day
@@ -32,4 +32,5 @@ plainTo from k day =
       standing = from .standing + (k - from .count);
       flagged = from .flagged;
       newest = k - 1;
+      doubt = from .doubt;
     }

@@ -1,6 +1,4 @@
 -- Each part is that of the entries passed.
-use Rattle.journal.specs.Sound.{areInOrder, areSound}
-use Rattle.journal.proofs.Bools.{both}
 use Rattle.journal.proofs.Newest.{summary-is}
 use borrow.Author.Needs.{needs}
 use Rattle.journal.proofs.judge.summary_of.Statement.{statement}
@@ -13,12 +11,10 @@ last-value-requires : tie.Need-last-value-requires
 last-value-requires c κs = search needs
 
 returns : tie.Need-returns
-unfolding areSound
 returns c =
     let kept = c .before in
     let start = kept .before .before .before in
-    λ is.
-    summary-is (start .args .head) _ (start .args .pass) (is .same) (both (areInOrder (start .args .head) _) _ (is .sound) .0) (kept .kept-of .ensures) (c .last-value .ensures)
+    λ limit is. summary-is (start .args .head) _ (start .args .pass) (is .same) (is .ordered) (kept .kept-of .ensures) (c .last-value .ensures) limit
 
 pub summary-of-spec : {M : Type 1} → statement M
 summary-of-spec = tie.close (tie.spec kept-of-requires last-value-requires returns)

@@ -11,14 +11,18 @@ is-standing-requires c κs = search needs
 flagged-with-requires : tie.Need-flagged-with-requires
 flagged-with-requires c κs = search needs
 
+may-have-requires : tie.Need-may-have-requires
+may-have-requires c κs = search needs
+
 stand-requires : tie.Need-stand-requires
 stand-requires c κs = search needs
 
 returns : tie.Need-returns
 returns c =
-    let flagged = c .before in
+    let may = c .before in
+    let flagged = may .before in
     let s = flagged .before .before in
-    λ es h. c .stand .ensures .1 es (sym (s .is-standing .ensures) ∙ flagged .before .if1 .taken) (flagged .flagged-with .ensures) h
+    λ es h. c .stand .ensures .1 es (sym (s .is-standing .ensures) ∙ flagged .before .if1 .taken) (flagged .flagged-with .ensures) (may .may-have .ensures) h
 
 is-withdrawn-requires : tie.Need-is-withdrawn-requires
 is-withdrawn-requires c κs = search needs
@@ -31,8 +35,8 @@ returns-2 c =
     let w = c .before .before in
     λ es h. c .withdraw .ensures .1 es (sym (w .is-withdrawn .ensures) ∙ c .before .if2 .taken) h
 
-add-t6 : tie.Need-add-t6
-add-t6 c = search needs
+add-count : tie.Need-add-count
+add-count c = search needs
 
 returns-3 : tie.Need-returns-3
 returns-3 c =
@@ -52,10 +56,11 @@ count-spec =
     (tie.spec
     is-standing-requires
     flagged-with-requires
+    may-have-requires
     stand-requires
     returns
     is-withdrawn-requires
     withdraw-requires
     returns-2
-    add-t6
+    add-count
     returns-3)

@@ -19,20 +19,17 @@ returns c = λ n. absurd (n refl)
 may-have-requires : tie.Need-may-have-requires
 may-have-requires c κs = search needs
 
-returns-2 : tie.Need-returns-2
-returns-2 c = λ n. absurd (n refl)
-
 stand-requires : tie.Need-stand-requires
 stand-requires c κs = search needs
 
-returns-3 : tie.Need-returns-3
+returns-2 : tie.Need-returns-2
 unfolding isFlagged
-returns-3 c =
-    let clear = c .before in
-    let body = clear .before .before .before in
+returns-2 c =
+    let may = c .before in
+    let body = may .before .before in
     let s = body .before .before in
     let k = sym (s .is-standing .ensures) ∙ body .before .if1 .taken in
-    let plain = body .is-plain-body .ensures (not-false _ (clear .before .before .if2 .left)) in
+    let plain = body .is-plain-body .ensures (not-false _ (may .before .if2 .left)) in
     λ n.
     stand-one
     (s .before .args .run)
@@ -40,37 +37,36 @@ returns-3 c =
     _
     plain
     (c .stand .ensures .0)
-    (λ es h. c .stand .ensures .1 es k (rw (plain .flag)) h)
+    (λ es h. c .stand .ensures .1 es k (rw (plain .flag)) (may .may-have .ensures) h)
     k
-    (clear .before .may-have .ensures (clear .if3 .left))
 
 is-withdrawn-requires : tie.Need-is-withdrawn-requires
 is-withdrawn-requires c κs = search needs
 
-returns-4 : tie.Need-returns-4
-returns-4 c = λ n. absurd (n refl)
+returns-3 : tie.Need-returns-3
+returns-3 c = λ n. absurd (n refl)
 
 is-plain-body-requires-2 : tie.Need-is-plain-body-requires-2
 is-plain-body-requires-2 c κs = search needs
 
-returns-5 : tie.Need-returns-5
-returns-5 c = λ n. absurd (n refl)
+returns-4 : tie.Need-returns-4
+returns-4 c = λ n. absurd (n refl)
 
 withdraw-requires : tie.Need-withdraw-requires
 withdraw-requires c κs = search needs
 
-returns-6 : tie.Need-returns-6
-returns-6 c =
+returns-5 : tie.Need-returns-5
+returns-5 c =
     let body = c .before .before in
     let w = body .before .before in
     let start = w .before .before .before in
-    let gone = sym (w .is-withdrawn .ensures) ∙ not-false _ (body .before .if4 .left) in
+    let gone = sym (w .is-withdrawn .ensures) ∙ not-false _ (body .before .if3 .left) in
     λ n.
     withdraw-one
     (start .args .run)
     (start .args .e)
     _
-    (body .is-plain-body2 .ensures (not-false _ (c .before .if5 .left)))
+    (body .is-plain-body2 .ensures (not-false _ (c .before .if4 .left)))
     (c .withdraw .ensures .0)
     (λ es h. c .withdraw .ensures .1 es gone h)
     gone
@@ -83,12 +79,11 @@ run-on-spec =
     is-plain-body-requires
     returns
     may-have-requires
-    returns-2
     stand-requires
-    returns-3
+    returns-2
     is-withdrawn-requires
-    returns-4
+    returns-3
     is-plain-body-requires-2
-    returns-5
+    returns-4
     withdraw-requires
-    returns-6)
+    returns-5)
