@@ -5,6 +5,7 @@ pub mod Steps
 pub mod Bits
 pub mod Blocks
 pub mod Clashes
+pub mod Halved
 pub mod Runs
 pub mod Passes
 pub mod Newest
