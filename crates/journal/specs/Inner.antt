@@ -7,6 +7,7 @@ pub mod Past
 pub mod Run
 pub mod Plain
 pub mod Pass
+pub mod Halving
 pub mod Back
 pub mod Survey
 pub mod Judged

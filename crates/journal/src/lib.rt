@@ -1,6 +1,7 @@
 // The journal: what an area's bytes mean, for any bytes whatever.
 mod apart;
 pub mod found;
+mod halving;
 pub mod judge;
 pub mod limits;
 mod marks;
