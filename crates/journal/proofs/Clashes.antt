@@ -97,7 +97,7 @@ module _ (day value : ℕ) where
       let other : s .day ≡ day → ⊥ = λ e. omega arith in
       rw (ne-eqb (s .day) day other) (none-stands (t ∷ ss) (c .1) (omega arith))
 
-  none-on : (ss : List Entry) → daysRise ss ≡ true → dayOf (slotAt ss 0) < day → onDay day ss ≡ Empty
+  pub none-on : (ss : List Entry) → daysRise ss ≡ true → dayOf (slotAt ss 0) < day → onDay day ss ≡ Empty
   unfolding onDay daysRise dayOf slotAt
   none-on [] r l = refl
   none-on (s ∷ []) r l =
@@ -114,7 +114,7 @@ module _ (day value : ℕ) where
   nothing-found es r l w = rw (none-on (standing es) r l, none-stands (standing es) r l, none-as-late (withdrawn es) w)
 
 -- the last standing read alone is of its day
-none-before : (day value : ℕ) (s : Entry) (ss : List Entry) → daysRise (s ∷ ss) ≡ true → s .day ≡ day → any (hasRead day value) ss ≡ false
+pub none-before : (day value : ℕ) (s : Entry) (ss : List Entry) → daysRise (s ∷ ss) ≡ true → s .day ≡ day → any (hasRead day value) ss ≡ false
 unfolding daysRise any dayOf slotAt
 none-before day value s [] r e = refl
 none-before day value s (t ∷ ss) r e =

@@ -22,7 +22,7 @@ use Rattle.journal.specs.declared.survey.Surveyed.{Surveyed}
 use Rattle.journal.specs.declared.survey.Surveyed.the-variants as survey
 use Rattle.journal.specs.Journal.{Journal, allZero, entriesTo, countFrom, entryCount, journalOf, standing, withdrawn}
 use Rattle.journal.specs.Sound.{isHead, areApart, areSound, isSound}
-use Rattle.journal.specs.Inner.Judged.{summaryOf, judged, judgedBody}
+use Rattle.journal.specs.Inner.Judged.{summaryOf, judged, judgedBody, Judges, Counted}
 use Rattle.journal.specs.Inner.Pass.{IsPassed}
 use Rattle.journal.specs.Inner.Survey.{surveyOf, surveyed}
 use Rattle.journal.proofs.Bools.{both}
@@ -70,21 +70,25 @@ module _ (day value : ℕ) (a : List ℕ) where
       let c = sound-case (eqb (length a) areaBytes) (allZero a) (isSound a) (summaryOf (journalOf a)) (surveyOf day value (journalOf a)) h in
       (eqb-true (length a) areaBytes (c .0), c .1, c .2, c .3)
 
+-- what is judged sound is counted
+pub judged-counted : (a : List ℕ) {t : Summary} → Judges a (judge.Sound t) → Counted a t
+judged-counted a is = let s = sound-is 0 0 a (sym (is .found-is)) in record { long = s .0; sound = s .1; summary = s .2 }
+
 -- ---- a sound area by its head and its body
 module _ (a : List ℕ) (t : Summary) (sound : isSound a ≡ true) (summary : t ≡ summaryOf (journalOf a)) where
   pub head-is : t .head ≡ headOf a
   unfolding summaryOf journalOf
   head-is = ap (λ (u : Summary). u .head) summary
 
-  entries-are : t .entries ≡ entryCount a
+  pub entries-are : t .entries ≡ entryCount a
   unfolding summaryOf journalOf
   entries-are = ap (λ (u : Summary). u .entries) summary ∙ length-entries (entryCount a) (bodyOf a)
 
-  journal-is : journalOf a ≡ record { head = t .head; entries = entriesTo (t .entries) (bodyOf a) }
+  pub journal-is : journalOf a ≡ record { head = t .head; entries = entriesTo (t .entries) (bodyOf a) }
   unfolding journalOf
   journal-is = rw (entries-are, head-is)
 
-  body-sound : areSound (t .head) (entriesTo (t .entries) (bodyOf a)) ≡ true
+  pub body-sound : areSound (t .head) (entriesTo (t .entries) (bodyOf a)) ≡ true
   unfolding isSound
   body-sound =
       let parts = both (isHead a) _ sound in

@@ -1,6 +1,6 @@
 -- What an area is, with what is counted of a sound one's entries.
 use mathlib.Core.Path.{_≡_}
-use mathlib.Core.Bool.{not, _&&_, cond}
+use mathlib.Core.Bool.{true, not, _&&_, cond}
 use mathlib.Core.List.{List}
 use Prim.Native.Nat.{ℕ, _+_}
 use lib.Dec.{eqb}
@@ -62,3 +62,9 @@ judgedBody head body =
 pub record Judges (area : List ℕ) (found : Judged) : Type 0 where
   pub found-is : found ≡ judged area
   pub number-is : length area ≡ areaBytes → judgedNumber found ≡ firstBroken (areaRules area)
+
+-- an area is sound, and this is what was counted of it
+pub record Counted (area : List ℕ) (t : Summary) : Type 0 where
+  pub long : length area ≡ areaBytes
+  pub sound : isSound area ≡ true
+  pub summary : t ≡ summaryOf (journalOf area)

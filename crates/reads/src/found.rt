@@ -1,0 +1,114 @@
+// What stands or is withdrawn of a day and a value that a call names.
+ghost use mathlib.Core.Path.{_≡_};
+ghost use mathlib.Core.Bool.{true};
+ghost use Prim.Native.Nat.{_≤_};
+ghost use lib.Dec.{eqb};
+ghost use lib.ListN.{length};
+ghost use Rattle.terms.specs.declared.entry.Slot.the-variants.{Empty};
+ghost use Rattle.register.specs.Entries.{entryStart};
+ghost use Rattle.journal.specs.Journal.{journalOf, entriesTo, standing, withdrawn, slotIf, onDay};
+ghost use Rattle.journal.specs.Sound.{any, hasRead, daysRise};
+ghost use Rattle.journal.specs.Inner.Judged.{Counted};
+use crate::read::entry_at;
+use crate::read::word_at;
+use crate::recent::last;
+use crate::room::has_entry;
+use crate::room::has_room;
+use journal::judge::Summary;
+use register::area::Layout;
+use register::head::head_bytes;
+use terms::entry::Entry;
+use terms::entry::Kind;
+use terms::entry::Slot;
+
+// The entry, if it is of a day.
+fn if_on(day: u16, e: Entry) -> Slot
+    ensures { λ r. ⌜ r ≡ slotIf (eqb (e .day) day) e Empty ⌝ }
+{
+    if e.day == day {
+        return Slot::Read(e);
+    }
+    Slot::Empty
+}
+
+// The one of the first m entries that stands on a day. Standing days rise, so the last that is not later than the day is on it or none is.
+fn on_day(body: &[u8], m: u8, day: u16) -> Slot
+    requires { ⌜ entryStart m ≤ length (now body) ⌝ }
+    ensures { λ r. ⌜ (daysRise (standing (entriesTo m (now (body .entry)))) ≡ true → r ≡ onDay day (standing (entriesTo m (now (body .entry))))) ⌝ }
+{
+    let mut k = m;
+    while 0 < k {
+        let at = Layout::ENTRY_BYTES * ((k - 1) as usize);
+        if (body[at] == Kind::STANDING) & (word_at(body, at + 1) <= day) {
+            return if_on(day, entry_at(body, k - 1));
+        }
+        k -= 1;
+    }
+    Slot::Empty
+}
+
+// The read that stands on a day. The day of the last one is known; a later day has none, and an earlier one is searched before the last.
+pub fn read_on(area: &[u8], t: Summary, day: u16) -> Slot
+    ensures { λ r. ⌜ (Counted (now (area .entry)) t → r ≡ onDay day (standing (journalOf (now (area .entry)) .entries))) ⌝ }
+{
+    if t.day < day {
+        return Slot::Empty;
+    }
+    if t.day == day {
+        return last(area, t);
+    }
+    let head = t.head;
+    let counts = t.counts;
+    if !has_entry(area, head, counts.newest) {
+        return Slot::Empty;
+    }
+    let start = head_bytes(head);
+    on_day(&area[start..], counts.newest, day)
+}
+
+// A read with this day and value stands. One read at most stands on a day.
+pub fn has_standing(area: &[u8], t: Summary, day: u16, value: u32) -> bool
+    ensures { λ r. ⌜ (Counted (now (area .entry)) t → r ≡ any (hasRead day value) (standing (journalOf (now (area .entry)) .entries))) ⌝ }
+{
+    match read_on(area, t, day) {
+        Slot::Read(e) => e.value == value,
+        Slot::Empty => false,
+    }
+}
+
+fn has_read(day: u16, value: u32, e: Entry) -> bool
+    ensures { λ r. ⌜ r ≡ hasRead day value e ⌝ }
+{
+    (e.day == day) & (e.value == value)
+}
+
+// One of the first m entries is withdrawn with this day and value.
+fn is_among(body: &[u8], m: u8, day: u16, value: u32) -> bool
+    requires { ⌜ entryStart m ≤ length (now body) ⌝ }
+    ensures { λ r. ⌜ r ≡ any (hasRead day value) (withdrawn (entriesTo m (now (body .entry)))) ⌝ }
+{
+    let mut found = false;
+    let mut k: u8 = 0;
+    while k < m {
+        let e = entry_at(body, k);
+        found = ((e.kind == Kind::WITHDRAWN) & has_read(day, value, e)) | found;
+        k += 1;
+    }
+    found
+}
+
+// A read with this day and value was withdrawn. No withdrawn read is of a day after the latest.
+pub fn has_withdrawn(area: &[u8], t: Summary, day: u16, value: u32) -> bool
+    ensures { λ r. ⌜ (Counted (now (area .entry)) t → r ≡ any (hasRead day value) (withdrawn (journalOf (now (area .entry)) .entries))) ⌝ }
+{
+    if t.latest < day {
+        return false;
+    }
+    let head = t.head;
+    let entries = t.entries;
+    if !has_room(area, head, entries) {
+        return false;
+    }
+    let start = head_bytes(head);
+    is_among(&area[start..], entries, day, value)
+}
