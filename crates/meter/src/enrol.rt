@@ -6,7 +6,7 @@ ghost use Rattle.calls.specs.Calls.{acted, enrolIn, done, step};
 use calls::call::Call;
 use calls::call::Reply;
 use journal::plate::is_plate;
-use journal::zeros::is_zero_from;
+use journal::zeros::is_zero;
 use place::Located;
 use place::locate;
 use register::area::Layout;
@@ -21,7 +21,7 @@ use terms::number::Number;
 fn check_enrolment(area: &[u8], head: Head) -> u8
     ensures { λ r. ⌜ r ≡ firstBroken (enrolChecks head (now (area .entry))) ⌝ }
 {
-    if !is_zero_from(area, 0) {
+    if !is_zero(area) {
         return Number::ENROLLED;
     }
     if !is_plate(head) {

@@ -1,9 +1,9 @@
 // Writing numbers and entries into an area. A byte past the end of what is lent is not written.
 ghost use mathlib.Core.Path.{_≡_};
-ghost use Prim.Native.Nat.{_<_};
-ghost use lib.ListN.{set};
+ghost use lib.ListN.{length, set};
+ghost use Prim.Native.Nat.{_+_, _<_, _≤_};
 ghost use Rattle.register.specs.Bytes.{putWord, putLong};
-ghost use Rattle.register.specs.Entries.{putEntry};
+ghost use Rattle.register.specs.Entries.{entryBytes, putEntry};
 ghost use Rattle.register.specs.Head.{putHead};
 use crate::head::Head;
 use terms::entry::Entry;
@@ -42,11 +42,34 @@ pub fn put_head(area: &mut [u8], head: Head)
     put_long(area, 2, head.capacity);
 }
 
+// An entry where all of its bytes are lent, with no test for each of them.
+fn put_within(area: &mut [u8], at: usize, e: Entry)
+    requires { ⌜ at + entryBytes ≤ length (now area) ⌝ }
+    ensures { λ _. ⌜ now (area .exit) ≡ putEntry (now (area .entry)) at e ⌝ }
+{
+    area[at] = e.kind;
+    area[at + 1] = (e.day % 256) as u8;
+    area[at + 2] = (e.day / 256) as u8;
+    let low = (e.value % 65536) as u16;
+    let high = (e.value / 65536) as u16;
+    area[at + 3] = (low % 256) as u8;
+    area[at + 4] = (low / 256) as u8;
+    area[at + 5] = (high % 256) as u8;
+    area[at + 6] = (high / 256) as u8;
+    area[at + 7] = e.letter;
+    area[at + 8] = e.indicator;
+    area[at + 9] = e.flag;
+}
+
 // An entry, at a byte of an area.
 pub fn put_entry(area: &mut [u8], offset: u16, e: Entry)
     ensures { λ _. ⌜ now (area .exit) ≡ putEntry (now (area .entry)) offset e ⌝ }
 {
     let at = offset as usize;
+    if at + 10 <= area.len() {
+        put_within(area, at, e);
+        return;
+    }
     put_byte(area, at, e.kind);
     put_word(area, at + 1, e.day);
     put_long(area, at + 3, e.value);

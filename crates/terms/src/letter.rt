@@ -55,19 +55,23 @@ pub fn is_unchecked(letter: u8) -> bool
     (letter == Letter::INITIAL) | ((letter == Letter::OPENING) | (letter == Letter::RECONNECTION))
 }
 
+struct Letters;
+
+impl Letters {
+    // A bit for each letter from 64 to 127: C, E, F, I, O, R, S, T, U, X and Y.
+    const KNOWN: u64 = 54297192;
+}
+
 // One of the eleven types.
 pub fn is_known(letter: u8) -> bool
     ensures { λ r. ⌜ r ≡ isKnown letter ⌝ }
 {
-    (letter == Letter::INITIAL)
-        | ((letter == Letter::OPENING)
-            | ((letter == Letter::FINAL)
-                | ((letter == Letter::CYCLIC)
-                    | ((letter == Letter::CUSTOMER)
-                        | ((letter == Letter::AMR)
-                            | ((letter == Letter::TRANSFER)
-                                | ((letter == Letter::ESTIMATED_TRANSFER)
-                                    | ((letter == Letter::DISCONNECTION)
-                                        | ((letter == Letter::RECONNECTION)
-                                            | (letter == Letter::END))))))))))
+    if letter < 64 {
+        return false;
+    }
+    if 127 < letter {
+        return false;
+    }
+    let bit = letter % 64;
+    (Letters::KNOWN >> bit) % 2 == 1
 }

@@ -1,8 +1,20 @@
--- The stores are the definition's, in its order.
+-- With all bytes there it is the other function's; else the stores are the definition's, in its order.
 use Rattle.register.specs.Entries.{putEntry}
 use borrow.Author.Needs.{needs}
 use Rattle.register.proofs.write.put_entry.Statement.{statement}
 use Rattle.register.proofs.write.put_entry.Tie as tie
+
+add-if1 : tie.Need-add-if1
+add-if1 c = search needs
+
+put-within-requires : tie.Need-put-within-requires
+put-within-requires c κs = search needs
+
+same-length : tie.Need-same-length
+same-length c = search needs
+
+returns : tie.Need-returns
+returns c = search needs
 
 put-byte-requires : tie.Need-put-byte-requires
 put-byte-requires c κs = search needs
@@ -37,17 +49,21 @@ add-put-byte-3 c = search needs
 put-byte-requires-4 : tie.Need-put-byte-requires-4
 put-byte-requires-4 c κs = search needs
 
-same-length : tie.Need-same-length
-same-length c = search needs
+same-length-2 : tie.Need-same-length-2
+same-length-2 c = search needs
 
-returns : tie.Need-returns
+returns-2 : tie.Need-returns-2
 unfolding putEntry
-returns c = cc
+returns-2 c = cc
 
 pub put-entry-spec : {M : Type 1} → statement M
 put-entry-spec =
     tie.close
     (tie.spec
+    add-if1
+    put-within-requires
+    same-length
+    returns
     put-byte-requires
     add-put-word
     put-word-requires
@@ -59,5 +75,5 @@ put-entry-spec =
     put-byte-requires-3
     add-put-byte-3
     put-byte-requires-4
-    same-length
-    returns)
+    same-length-2
+    returns-2)
