@@ -16,7 +16,7 @@ returns c =
 are-apart-requires : tie.Need-are-apart-requires
 are-apart-requires c κs =
     let start = c .before .before .before in
-    (start .pre .0, run-day _ (start .pre .1), days-rise (start .args .head) _ (start .pre .2))
+    (start .pre .0, (run-day _ (start .pre .1), days-rise (start .args .head) _ (start .pre .2)))
 
 returns-2 : tie.Need-returns-2
 returns-2 c = c .are-apart .ensures
