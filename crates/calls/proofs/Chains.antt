@@ -12,9 +12,9 @@ use lib.ListN.{take, drop, replicate, length-replicate}
 use Rattle.terms.specs.declared.entry.Entry.{Entry}
 use Rattle.terms.specs.Entry.{those}
 use Rattle.terms.specs.Number.{accepted}
-use Rattle.register.specs.Area.{areaBytes, areasIn, registerBytes, areaOf}
+use Rattle.register.specs.Area.{areaBytes, areasIn, registerBytes, areaOf, allZero}
 use Rattle.register.proofs.Areas.{area-length}
-use Rattle.journal.specs.Journal.{allZero, standing, withdrawn}
+use Rattle.journal.specs.Journal.{standing, withdrawn}
 use Rattle.calls.specs.declared.call.Call.{Call}
 use Rattle.calls.specs.Calls.{act, placeOf, step}
 use Rattle.calls.proofs.Bools.{both, left-or, right-or, by-test}

@@ -11,8 +11,8 @@ use Rattle.terms.specs.Answer.{answer}
 use Rattle.terms.specs.Entry.{kindStanding, slotAt}
 use Rattle.terms.specs.Number.{accepted}
 use Rattle.rules.specs.Volume.{advanceOver}
-use Rattle.register.specs.Area.{areaBytes}
-use Rattle.journal.specs.Journal.{journalOf, allZero, standing, withdrawn}
+use Rattle.register.specs.Area.{areaBytes, allZero}
+use Rattle.journal.specs.Journal.{journalOf, standing, withdrawn}
 use Rattle.journal.specs.Sound.{any, hasRead, areApart, isSound}
 use Rattle.calls.specs.declared.call.Call.{Call}
 use Rattle.calls.specs.declared.call.Call.the-variants.{Enrol, Submit, Withdraw, Report as ReportCall}

@@ -7,12 +7,12 @@ use native.Mathlib.Omega.{arith}
 use borrow.Author.Tests.{eq-eqb}
 use lib.ListN.{length, drop}
 use Rattle.register.specs.declared.head.Head.{Head}
-use Rattle.register.specs.Area.{areaBytes}
+use Rattle.register.specs.Area.{areaBytes, allZero}
 use Rattle.register.specs.Entries.{entryStart}
 use Rattle.register.specs.Head.{headOf, headBytes, mostEntries, bodyOf, putHead}
 use Rattle.register.proofs.Back.{head-length, head-kind, head-same}
 use Rattle.register.proofs.Body.{meter-room, head-body}
-use Rattle.journal.specs.Journal.{allZero, entriesTo, journalOf}
+use Rattle.journal.specs.Journal.{entriesTo, journalOf}
 use Rattle.terms.specs.Entry.{those}
 use Rattle.journal.specs.Sound.{every, daysRise, opensRight, hasOneFinal, isHeldRight, areApart, areInOrder, areSound, isPlate, isHead, isSound}
 use Rattle.calls.proofs.Bools.{together}

@@ -10,8 +10,7 @@ use Rattle.terms.specs.declared.submission.Submission.{Submission}
 use Rattle.terms.specs.Number.{accepted}
 use Rattle.terms.specs.Rule.{firstBroken}
 use Rattle.register.specs.declared.head.Head.{Head}
-use Rattle.register.specs.Area.{areaBytes}
-use Rattle.journal.specs.Journal.{allZero}
+use Rattle.register.specs.Area.{areaBytes, allZero}
 use Rattle.journal.specs.Sound.{isSound}
 use Rattle.calls.specs.declared.call.Call.{Call}
 use Rattle.calls.specs.declared.call.Call.the-variants.{Enrol, Submit, Withdraw, Report as ReportCall}

@@ -20,11 +20,11 @@ use Rattle.terms.specs.Answer.{answer}
 use Rattle.terms.specs.Number.{accepted}
 use Rattle.rules.specs.Volume.{advanceOver}
 use Rattle.terms.specs.Rule.{firstBroken}
-use Rattle.register.specs.Area.{areaBytes}
+use Rattle.register.specs.Area.{areaBytes, allZero}
 use Rattle.register.specs.Bytes.{byteAt}
 use Rattle.register.specs.Entries.{entryStart}
 use Rattle.register.specs.Head.{headOf, headBytes, bodyOf}
-use Rattle.journal.specs.Journal.{Journal, journalOf, allZero, entriesTo, standing}
+use Rattle.journal.specs.Journal.{Journal, journalOf, entriesTo, standing}
 use Rattle.journal.specs.Sound.{every, leastDials, mostDials, isHead, isPlate, holds, takes, opens, isInRange, isRead, opensRight, isSound}
 use Rattle.calls.specs.declared.call.Call.{Call}
 use Rattle.calls.specs.declared.call.Call.the-variants.{Enrol, Submit, Withdraw, Report as ReportCall}

@@ -11,12 +11,13 @@ use lib.ListN.{length, take, drop}
 use lib.Seq.{getD-drop}
 use Rattle.terms.specs.declared.entry.Entry.{Entry}
 use Rattle.terms.specs.Entry.{keepIf, those}
+use Rattle.register.specs.Area.{allZero}
 use Rattle.register.specs.declared.head.Head.{Head}
 use Rattle.register.specs.Bytes.{byteAt}
 use Rattle.register.specs.Entries.{entryStart, entryAt}
 use Rattle.register.specs.Head.{headOf, mostEntries, bodyOf}
 use Rattle.register.proofs.Back.{same-entry}
-use Rattle.journal.specs.Journal.{allZero, entriesTo, countFrom, entryCount, journalOf, isKept, kept, heldOf, isThere}
+use Rattle.journal.specs.Journal.{entriesTo, countFrom, entryCount, journalOf, isKept, kept, heldOf, isThere}
 use Rattle.journal.specs.Sound.{every, isRead, isHead, isHeldRight, areSound, isSound}
 use Rattle.journal.proofs.Entries.{length-entries, those-at-most, count-at-most}
 use Rattle.calls.proofs.Bools.{both, together, by-test}

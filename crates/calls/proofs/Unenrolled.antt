@@ -9,9 +9,8 @@ use lib.Dec.{eqb}
 use lib.IntN.{pos}
 use lib.ListN.{length}
 use Rattle.terms.specs.Number.{accepted, noMeter}
-use Rattle.register.specs.Area.{areaBytes, areasIn, areaOf}
+use Rattle.register.specs.Area.{areaBytes, areasIn, areaOf, allZero}
 use Rattle.register.proofs.Areas.{area-length}
-use Rattle.journal.specs.Journal.{allZero}
 use Rattle.journal.specs.Numbers.{areaRules}
 use Rattle.calls.specs.declared.call.Call.{Call}
 use Rattle.calls.specs.declared.call.Call.the-variants.{Enrol, Submit, Withdraw, Report as ReportCall}

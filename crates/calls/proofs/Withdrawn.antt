@@ -12,13 +12,13 @@ use Rattle.terms.specs.declared.entry.Slot.the-variants.{Empty}
 use Rattle.terms.specs.Number.{accepted}
 use Rattle.terms.specs.Rule.{firstBroken}
 use Rattle.terms.specs.Entry.{kindWithdrawn, isStanding, those, slotAt}
-use Rattle.register.specs.Area.{areaBytes}
+use Rattle.register.specs.Area.{areaBytes, allZero}
 use Rattle.register.specs.Bytes.{byteAt}
 use Rattle.register.specs.Entries.{entryBytes, entryStart, entryAt, putEntry, zeroEntry}
 use Rattle.register.specs.Head.{headOf, mostEntries, bodyOf, entryOffset}
 use Rattle.register.proofs.Back.{entry-length, entry-below, entry-above, entry-same, past-entry, other-kind}
 use Rattle.register.proofs.Body.{body-room, entry-head, entry-head-kind, entry-body, kind-head, kind-head-kind, kind-body, same-offset}
-use Rattle.journal.specs.Journal.{Journal, allZero, entriesTo, entryCount, journalOf, isKept, standing, withdrawn, kept, heldOf, isThere, newestAt}
+use Rattle.journal.specs.Journal.{Journal, entriesTo, entryCount, journalOf, isKept, standing, withdrawn, kept, heldOf, isThere, newestAt}
 use Rattle.journal.specs.Numbers.{areaRules}
 use Rattle.journal.specs.Sound.{any, hasRead, areSound, isSound}
 use Rattle.journal.proofs.Entries.{length-entries, count-at-most}

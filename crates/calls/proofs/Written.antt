@@ -9,12 +9,12 @@ use Rattle.terms.specs.declared.entry.Entry.{Entry}
 use Rattle.terms.specs.declared.entry.Slot.the-variants.{Empty}
 use Rattle.terms.specs.Entry.{isStanding, isWithdrawn, isHeld, keepIf, those}
 use Rattle.register.specs.declared.head.Head.{Head}
-use Rattle.register.specs.Area.{areaBytes}
+use Rattle.register.specs.Area.{areaBytes, allZero}
 use Rattle.register.specs.Entries.{entryBytes, entryStart, putEntry}
 use Rattle.register.specs.Head.{headOf, mostEntries, bodyOf, entryOffset}
 use Rattle.register.proofs.Back.{entry-length, entry-below, entry-above, entry-same}
 use Rattle.register.proofs.Body.{body-room, entry-head, entry-head-kind, entry-body}
-use Rattle.journal.specs.Journal.{Journal, allZero, entriesTo, entryCount, journalOf, isKept, standing, withdrawn, kept, slotIf, heldOf}
+use Rattle.journal.specs.Journal.{Journal, entriesTo, entryCount, journalOf, isKept, standing, withdrawn, kept, slotIf, heldOf}
 use Rattle.journal.specs.Sound.{every, isRead, areSound, isSound}
 use Rattle.calls.proofs.Bools.{both, together}
 use Rattle.calls.proofs.Zeros.{zero-past}

@@ -9,9 +9,9 @@ use lib.Dec.{eqb}
 use lib.ListN.{getD, drop}
 use lib.Seq.{drop-drop}
 use Rattle.terms.specs.declared.entry.Entry.{Entry}
+use Rattle.register.specs.Area.{allZero}
 use Rattle.register.specs.Bytes.{wordAt, longAt}
 use Rattle.register.specs.Entries.{entryAt, zeroEntry}
-use Rattle.journal.specs.Journal.{allZero}
 use Rattle.calls.proofs.Bools.{both, together}
 
 pub zero-at : (l : List ℕ) (i : ℕ) → allZero l ≡ true → getD l i 0 ≡ 0

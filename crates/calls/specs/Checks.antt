@@ -17,9 +17,10 @@ use Rattle.rules.specs.declared.indicator.Indicated.{Indicated}
 use Rattle.rules.specs.Detection.{detected}
 use Rattle.rules.specs.Indicator.{indicated, indicatedNumber, indicatedFlag}
 use Rattle.rules.specs.Volume.{isLowVolume, isHighVolume, isOverCapacity}
+use Rattle.register.specs.Area.{allZero}
 use Rattle.register.specs.declared.head.Head.{Head}
 use Rattle.register.specs.Head.{mostEntries}
-use Rattle.journal.specs.Journal.{Journal, journalOf, allZero, standing, withdrawn, kept, heldOf, isThere, onDay}
+use Rattle.journal.specs.Journal.{Journal, journalOf, standing, withdrawn, kept, heldOf, isThere, onDay}
 use Rattle.journal.specs.Numbers.{areaRules}
 use Rattle.journal.specs.Sound.{any, exists, hasRead, isFinalRead, isPlate, isSound}
 

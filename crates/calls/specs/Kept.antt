@@ -4,8 +4,7 @@ use mathlib.Core.Bool.{Bool, true, _||_}
 use mathlib.Core.List.{List}
 use Prim.Native.Nat.{ℕ, _<_}
 use lib.ListN.{length}
-use Rattle.register.specs.Area.{areasIn, registerBytes, areaOf}
-use Rattle.journal.specs.Journal.{allZero}
+use Rattle.register.specs.Area.{areasIn, registerBytes, areaOf, allZero}
 use Rattle.journal.specs.Sound.{isSound}
 use Rattle.calls.specs.declared.call.Call.{Call}
 use Rattle.calls.specs.Calls.{step}

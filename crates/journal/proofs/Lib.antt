@@ -3,7 +3,6 @@ pub mod Entries
 pub mod InOrder
 pub mod Steps
 pub mod Bits
-pub mod Blocks
 pub mod Clashes
 pub mod Doubts
 pub mod Halved

@@ -4,13 +4,14 @@ use mathlib.Core.Bool.{Bool, true, false, not, cond}
 use mathlib.Core.List.{List}
 use Prim.Native.Nat.{ℕ}
 use Rattle.terms.specs.Number.{accepted, noMeter, damaged}
+use Rattle.register.specs.Area.{allZero}
 use Rattle.journal.specs.declared.judge.Judged.{Judged}
 use Rattle.journal.specs.declared.judge.Judged.the-variants as judge
 use Rattle.journal.specs.declared.judge.Summary.{Summary}
 use Rattle.journal.specs.declared.survey.Survey.{Survey}
 use Rattle.journal.specs.declared.survey.Surveyed.{Surveyed}
 use Rattle.journal.specs.declared.survey.Surveyed.the-variants.{Zero, Damaged, Sound}
-use Rattle.journal.specs.Journal.{journalOf, allZero}
+use Rattle.journal.specs.Journal.{journalOf}
 use Rattle.journal.specs.Sound.{isSound}
 use Rattle.journal.specs.Inner.Judged.{summaryOf, judged, Judges}
 use Rattle.journal.specs.Inner.Survey.{surveyOf, surveyed, Surveys}

@@ -8,7 +8,7 @@ use borrow.Author.Tests.{eqb-true}
 use lib.Dec.{eqb}
 use lib.ListN.{length, take, drop}
 use Rattle.terms.specs.declared.entry.Entry.{Entry}
-use Rattle.register.specs.Area.{areaBytes}
+use Rattle.register.specs.Area.{areaBytes, allZero}
 use Rattle.register.specs.Entries.{entryStart}
 use Rattle.register.specs.declared.head.Head.{Head}
 use Rattle.register.specs.Head.{headOf, headBytes, mostEntries, bodyOf}
@@ -20,7 +20,7 @@ use Rattle.journal.specs.declared.pass.Pass.{Pass}
 use Rattle.journal.specs.declared.survey.Survey.{Survey}
 use Rattle.journal.specs.declared.survey.Surveyed.{Surveyed}
 use Rattle.journal.specs.declared.survey.Surveyed.the-variants as survey
-use Rattle.journal.specs.Journal.{Journal, allZero, entriesTo, countFrom, entryCount, journalOf, standing, withdrawn}
+use Rattle.journal.specs.Journal.{Journal, entriesTo, countFrom, entryCount, journalOf, standing, withdrawn}
 use Rattle.journal.specs.Sound.{isHead, areApart, areSound, isSound}
 use Rattle.journal.specs.Inner.Judged.{summaryOf, judged, judgedBody, Judges, Counted}
 use Rattle.journal.specs.Inner.Pass.{IsPassed}

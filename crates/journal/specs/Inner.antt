@@ -1,7 +1,6 @@
 -- What only proofs and inner contracts need: how the loops over a body go about it.
 pub mod Follow
 pub mod Loops
-pub mod Zeros
 pub mod Marks
 pub mod Past
 pub mod Run

@@ -13,11 +13,6 @@ use Rattle.register.specs.Bytes.{byteAt}
 use Rattle.register.specs.Entries.{entryStart, entryAt}
 use Rattle.register.specs.Head.{headOf, mostEntries, bodyOf}
 
--- "An area is all zero (not enrolled)"
-unfoldable pub allZero : List ℕ → Bool
-allZero [] = true
-allZero (b ∷ bs) = eqb b 0 && allZero bs
-
 -- the first k entries of a body
 unfoldable pub entriesTo : ℕ → List ℕ → List Entry
 entriesTo zero body = []

@@ -4,11 +4,11 @@ use mathlib.Core.List.{List, [], _∷_}
 use Prim.Native.Nat.{ℕ}
 use Rattle.terms.specs.Number.{accepted, noMeter, damaged}
 use Rattle.terms.specs.Rule.{Rule, rule}
+use Rattle.register.specs.Area.{allZero}
 use Rattle.journal.specs.declared.judge.Judged.{Judged}
 use Rattle.journal.specs.declared.judge.Judged.the-variants as judged
 use Rattle.journal.specs.declared.survey.Surveyed.{Surveyed}
 use Rattle.journal.specs.declared.survey.Surveyed.the-variants as surveyed
-use Rattle.journal.specs.Journal.{allZero}
 use Rattle.journal.specs.Sound.{isSound}
 
 -- 3: "area all zero"; 4: "area neither zero nor sound"

@@ -8,11 +8,12 @@ use Rattle.arithmetic.specs.Powers.{tenTo}
 use Rattle.terms.specs.declared.entry.Entry.{Entry}
 use Rattle.terms.specs.Letter.{isKnown, isOpening, isFinal, isHoldable}
 use Rattle.terms.specs.Entry.{kindMeter, indicatorNotSet, indicatorTrue, isStanding, isWithdrawn, isHeld}
+use Rattle.register.specs.Area.{allZero}
 use Rattle.register.specs.Bytes.{byteAt}
 use Rattle.register.specs.declared.head.Head.{Head}
 use Rattle.register.specs.Entries.{entryStart}
 use Rattle.register.specs.Head.{headOf, bodyOf}
-use Rattle.journal.specs.Journal.{allZero, entryCount, journalOf, standing, withdrawn}
+use Rattle.journal.specs.Journal.{entryCount, journalOf, standing, withdrawn}
 
 -- every entry, or any entry, passes a test
 unfoldable pub every : (Entry → Bool) → List Entry → Bool

@@ -5,11 +5,11 @@ ghost use Prim.Native.Nat.{_-_, _≤_};
 ghost use lib.ListN.{length};
 ghost use Rattle.arithmetic.specs.Powers.{tenTo};
 ghost use Rattle.terms.specs.Entry.{slotAt};
-ghost use Rattle.register.specs.Area.{areaBytes};
+ghost use Rattle.register.specs.Area.{areaBytes, allZero};
 ghost use Rattle.register.specs.declared.head.Head.{Head};
 ghost use Rattle.register.specs.Entries.{entryStart};
 ghost use Rattle.register.specs.Head.{headOf, mostEntries};
-ghost use Rattle.journal.specs.Journal.{allZero, entriesTo, standing};
+ghost use Rattle.journal.specs.Journal.{entriesTo, standing};
 ghost use Rattle.journal.specs.Sound.{isHead};
 ghost use Rattle.journal.specs.Inner.Judged.{valueOf, summaryOf, judged, judgedBody, Judges};
 ghost use Rattle.journal.specs.Inner.Run.{runOf};
@@ -23,10 +23,10 @@ use crate::read::entry_at;
 use crate::read::head_at;
 use crate::run::Run;
 use crate::run::one_less;
-use crate::zeros::is_zero_from;
 use register::area::Layout;
 use register::head::Head;
 use register::head::head_bytes;
+use register::zeros::is_zero_from;
 use terms::entry::Kind;
 
 // Counts over a journal's entries.

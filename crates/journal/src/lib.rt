@@ -13,4 +13,3 @@ mod read;
 pub mod run;
 pub mod slot;
 pub mod survey;
-pub mod zeros;

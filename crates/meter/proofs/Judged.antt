@@ -6,11 +6,11 @@ use Prim.Native.Nat.{ℕ}
 use lib.ListN.{length}
 use Rattle.terms.specs.Number.{noMeter, damaged}
 use Rattle.terms.specs.Rule.{Rule, firstBroken}
-use Rattle.register.specs.Area.{areaBytes}
+use Rattle.register.specs.Area.{areaBytes, allZero}
 use Rattle.journal.specs.declared.survey.Survey.{Survey}
 use Rattle.journal.specs.declared.survey.Surveyed.{Surveyed}
 use Rattle.journal.specs.declared.survey.Surveyed.the-variants.{Zero, Damaged, Sound}
-use Rattle.journal.specs.Journal.{Journal, journalOf, allZero}
+use Rattle.journal.specs.Journal.{Journal, journalOf}
 use Rattle.journal.specs.Numbers.{areaRules}
 use Rattle.journal.specs.Sound.{isSound}
 use Rattle.journal.specs.Inner.Survey.{surveyOf, surveyed}

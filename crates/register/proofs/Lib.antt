@@ -2,3 +2,4 @@ pub mod Areas
 pub mod Back
 pub mod Lent
 pub mod Body
+pub mod Blocks

@@ -2,3 +2,4 @@ pub mod Area
 pub mod Bytes
 pub mod Entries
 pub mod Head
+pub mod Inner

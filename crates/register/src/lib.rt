@@ -1,4 +1,5 @@
-// The bytes of the register: areas, heads, entries, and how they are written. What the bytes mean is the journal's to say.
+// The bytes of the register: areas, heads, entries, how they are written, and where there are only zeros. What the bytes mean is the journal's to say.
 pub mod area;
 pub mod head;
 pub mod write;
+pub mod zeros;

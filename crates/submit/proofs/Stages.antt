@@ -13,11 +13,11 @@ use Rattle.terms.specs.Rule.{Rule, firstBroken}
 use Rattle.rules.specs.declared.indicator.Indicated.the-variants.{Denied, Unclear, Flag}
 use Rattle.rules.specs.Indicator.{indicatedNumber, indicatedFlag}
 use Rattle.rules.specs.Volume.{advanceOver, volumeNumber}
-use Rattle.register.specs.Area.{areaBytes}
+use Rattle.register.specs.Area.{areaBytes, allZero}
 use Rattle.register.specs.Head.{offsetAfter}
 use Rattle.journal.specs.declared.survey.Surveyed.{Surveyed}
 use Rattle.journal.specs.declared.survey.Surveyed.the-variants.{Zero, Damaged, Sound}
-use Rattle.journal.specs.Journal.{Journal, journalOf, allZero, standing, kept}
+use Rattle.journal.specs.Journal.{Journal, journalOf, standing, kept}
 use Rattle.journal.specs.Numbers.{areaRules}
 use Rattle.journal.specs.Sound.{isSound}
 use Rattle.journal.specs.Inner.Survey.{surveyed}

@@ -11,14 +11,14 @@ use Rattle.terms.specs.declared.entry.Slot.{Slot}
 use Rattle.terms.specs.declared.entry.Slot.the-variants.{Read, Empty}
 use Rattle.terms.specs.Entry.{slotAt}
 use Rattle.terms.specs.Rule.{firstBroken}
-use Rattle.register.specs.Area.{areaBytes}
+use Rattle.register.specs.Area.{areaBytes, allZero}
 use Rattle.register.specs.declared.head.Head.{Head}
 use Rattle.register.specs.Entries.{entryStart}
 use Rattle.register.specs.Head.{mostEntries}
 use Rattle.journal.specs.declared.judge.Summary.{Summary}
 use Rattle.journal.specs.declared.judge.Judged.{Judged}
 use Rattle.journal.specs.declared.judge.Judged.the-variants.{Zero, Damaged, Sound}
-use Rattle.journal.specs.Journal.{Journal, journalOf, allZero, entriesTo, countFrom, standing, withdrawn}
+use Rattle.journal.specs.Journal.{Journal, journalOf, entriesTo, countFrom, standing, withdrawn}
 use Rattle.journal.specs.Numbers.{areaRules, judgedNumber}
 use Rattle.journal.specs.Sound.{isSound, areSound, any, isFinalRead}
 use Rattle.journal.specs.Inner.Past.{latestDay, lastDay, marksOf}

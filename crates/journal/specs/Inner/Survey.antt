@@ -9,13 +9,13 @@ use Rattle.terms.specs.declared.entry.Entry.{Entry}
 use Rattle.terms.specs.declared.entry.Slot.the-variants.{Read}
 use Rattle.terms.specs.Entry.{those, recentOf}
 use Rattle.terms.specs.Rule.{firstBroken}
-use Rattle.register.specs.Area.{areaBytes}
+use Rattle.register.specs.Area.{areaBytes, allZero}
 use Rattle.journal.specs.declared.judge.Counts.{Counts}
 use Rattle.journal.specs.declared.found.Found.{Found}
 use Rattle.journal.specs.declared.survey.Survey.{Survey}
 use Rattle.journal.specs.declared.survey.Surveyed.{Surveyed}
 use Rattle.journal.specs.declared.survey.Surveyed.the-variants.{Zero, Damaged, Sound}
-use Rattle.journal.specs.Journal.{Journal, journalOf, allZero, standing, withdrawn, kept, heldOf, onDay, isFlagged, firstValue, newestAt}
+use Rattle.journal.specs.Journal.{Journal, journalOf, standing, withdrawn, kept, heldOf, onDay, isFlagged, firstValue, newestAt}
 use Rattle.journal.specs.Numbers.{areaRules, surveyedNumber}
 use Rattle.journal.specs.Sound.{isSound, any, hasRead, isFinalRead}
 

@@ -5,7 +5,7 @@ use mathlib.Core.List.{List, [], _∷_}
 use Prim.Native.Nat.{ℕ}
 use borrow.Author.Tests.{ne-eqb}
 use lib.ListN.{getD}
-use Rattle.journal.specs.Journal.{allZero}
+use Rattle.register.specs.Area.{allZero}
 use Rattle.journal.specs.Sound.{isHead, isSound}
 use Rattle.journal.specs.Inner.Judged.{judged}
 use Rattle.journal.proofs.Numbers.{judges}

@@ -7,11 +7,11 @@ use native.Mathlib.Omega.{arith}
 use borrow.Author.Tests.{not-true, not-false}
 use borrow.Author.Needs.{needs}
 use lib.ListN.{length}
-use Rattle.register.specs.Area.{areaBytes}
+use Rattle.register.specs.Area.{areaBytes, allZero}
 use Rattle.register.specs.Head.{headOf, headBytes, bodyOf}
 use Rattle.register.proofs.Body.{body-length, body-lent, lent-room}
 use Rattle.journal.specs.declared.judge.Judged.the-variants.{Damaged}
-use Rattle.journal.specs.Journal.{allZero, entryCount, journalOf}
+use Rattle.journal.specs.Journal.{entryCount, journalOf}
 use Rattle.journal.specs.Sound.{isHead, isSound}
 use Rattle.journal.specs.Inner.Judged.{judged, judgedBody}
 use Rattle.journal.proofs.judge.judge_journal.Statement.{statement}

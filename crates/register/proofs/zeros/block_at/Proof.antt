@@ -1,8 +1,8 @@
 -- Eight times eight bytes side by side, in the two lanes by turns.
-use Rattle.journal.proofs.Blocks.{block-zero, block-adds}
+use Rattle.register.proofs.Blocks.{block-zero, block-adds}
 use borrow.Author.Needs.{needs}
-use Rattle.journal.proofs.zeros.block_at.Statement.{statement}
-use Rattle.journal.proofs.zeros.block_at.Tie as tie
+use Rattle.register.proofs.zeros.block_at.Statement.{statement}
+use Rattle.register.proofs.zeros.block_at.Tie as tie
 
 eight-at-requires : tie.Need-eight-at-requires
 eight-at-requires c κs = search needs

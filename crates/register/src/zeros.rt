@@ -2,9 +2,8 @@
 ghost use mathlib.Core.Path.{_≡_};
 ghost use Prim.Native.Nat.{_+_, _≤_};
 ghost use lib.ListN.{length, drop};
-ghost use Rattle.journal.specs.Journal.{allZero};
-ghost use Rattle.journal.specs.Inner.Zeros.{Zeros, Adds};
-use crate::read::long_at;
+ghost use Rattle.register.specs.Area.{allZero};
+ghost use Rattle.register.specs.Inner.Zeros.{Zeros, Adds};
 
 // Two numbers whose bits are those of the bytes passed: two, so that the compiler may take sixteen bytes at a time.
 pub struct Lanes {
@@ -18,12 +17,31 @@ impl Block {
     const BYTES: usize = 64;
 }
 
+// Bytes side by side in one number, which is zero where they are: two, four and eight of them.
+fn two_at(bytes: &[u8], i: usize) -> u16
+    requires { ⌜ i + 2 ≤ length (now bytes) ⌝ }
+    ensures { λ r. ⌜ Zeros (now (bytes .entry)) i 2 r ⌝ }
+{
+    let low = bytes[i] as u16;
+    let high = bytes[i + 1] as u16;
+    low + 256 * high
+}
+
+fn four_at(bytes: &[u8], i: usize) -> u32
+    requires { ⌜ i + 4 ≤ length (now bytes) ⌝ }
+    ensures { λ r. ⌜ Zeros (now (bytes .entry)) i 4 r ⌝ }
+{
+    let low = two_at(bytes, i) as u32;
+    let high = two_at(bytes, i + 2) as u32;
+    low + 65536 * high
+}
+
 fn eight_at(bytes: &[u8], i: usize) -> u64
     requires { ⌜ i + 8 ≤ length (now bytes) ⌝ }
     ensures { λ r. ⌜ Zeros (now (bytes .entry)) i 8 r ⌝ }
 {
-    let low = long_at(bytes, i) as u64;
-    let high = long_at(bytes, i + 4) as u64;
+    let low = four_at(bytes, i) as u64;
+    let high = four_at(bytes, i + 4) as u64;
     low + 4294967296 * high
 }
 

@@ -1,6 +1,6 @@
 -- Bytes that are zero, several at a time.
 use mathlib.Core.Path.{_≡_, refl, sym, _∙_}
-use mathlib.Core.Bool.{Bool, true, false, _&&_}
+use mathlib.Core.Bool.{Bool, true, false, _&&_, and-eq-true-iff}
 use mathlib.Core.List.{List, [], _∷_}
 use Prim.Native.Nat.{ℕ, zero, suc, _+_, _-_, _*_, _≤_, _<_}
 use native.Mathlib.Numerals.{add-one}
@@ -10,11 +10,10 @@ use lib.Bits.{bitOr, or-add-and, and-le-l, and-le-r}
 use lib.Dec.{eqb, leb}
 use lib.ListN.{length, getD, drop}
 use lib.Seq.{getD-drop}
-use Rattle.register.specs.Bytes.{byteAt, wordAt, longAt}
-use Rattle.journal.specs.declared.zeros.Lanes.{Lanes}
-use Rattle.journal.specs.Journal.{allZero}
-use Rattle.journal.specs.Inner.Zeros.{AreZero, Zeros, Clear, Adds}
-use Rattle.journal.proofs.Bools.{false-is, both}
+use Rattle.register.specs.Bytes.{byteAt}
+use Rattle.register.specs.declared.zeros.Lanes.{Lanes}
+use Rattle.register.specs.Area.{allZero}
+use Rattle.register.specs.Inner.Zeros.{AreZero, Zeros, Clear, Adds}
 
 -- ---- bytes side by side
 module _ (b : List ℕ) where
@@ -35,16 +34,14 @@ module _ (b : List ℕ) where
         half h j from to true q = high .passed (apart h .1) j (leb-true _ _ q) (omega arith)
         half h j from to false q = low .passed (apart h .0) j from (leb-false _ _ q)
 
-  word-zero : (i : ℕ) → Zeros b i 2 (wordAt b i)
-  unfolding wordAt
-  word-zero i = join i 1 1 (λ h. (omega arith, omega arith)) (λ x y. omega arith) (one-zero i) (one-zero (i + 1))
+  pub two-zero : (i : ℕ) → Zeros b i 2 (byteAt b i + 256 * byteAt b (i + 1))
+  two-zero i = join i 1 1 (λ h. (omega arith, omega arith)) (λ x y. omega arith) (one-zero i) (one-zero (i + 1))
 
-  pub long-zero : (i : ℕ) → Zeros b i 4 (longAt b i)
-  unfolding longAt
-  long-zero i = join i 2 2 (λ h. (omega arith, omega arith)) (λ x y. omega arith) (word-zero i) (word-zero (i + 2))
+  pub four-zero : (i : ℕ) {x y : ℕ} → Zeros b i 2 x → Zeros b (i + 2) 2 y → Zeros b i 4 (x + 65536 * y)
+  four-zero i low high = join i 2 2 (λ h. (omega arith, omega arith)) (λ x y. omega arith) low high
 
-  pub eight-zero : (i : ℕ) → Zeros b i 8 (longAt b i + 4294967296 * longAt b (i + 4))
-  eight-zero i = join i 4 4 (λ h. (omega arith, omega arith)) (λ x y. omega arith) (long-zero i) (long-zero (i + 4))
+  pub eight-zero : (i : ℕ) {x y : ℕ} → Zeros b i 4 x → Zeros b (i + 4) 4 y → Zeros b i 8 (x + 4294967296 * y)
+  eight-zero i low high = join i 4 4 (λ h. (omega arith, omega arith)) (λ x y. omega arith) low high
 
   -- eight numbers, by their sum
   sum : (i m n : ℕ) {x y : ℕ} → Zeros b i m x → Zeros b (i + m) n y → Zeros b i (m + n) (x + y)
@@ -86,6 +83,9 @@ block-adds x₀ x₁ x₂ x₃ x₄ x₅ x₆ x₇ l z =
     }
 
 -- ---- all bytes of a list
+both : (x y : Bool) → x && y ≡ true → (x ≡ true) × (y ≡ true)
+both x y = and-eq-true-iff x y .0
+
 all-zero : (xs : List ℕ) → ((k : ℕ) → getD xs k 0 ≡ 0) → allZero xs ≡ true
 unfolding allZero
 all-zero [] h = refl
@@ -109,9 +109,6 @@ from-zero b from v passed kept =
     same-tests (eqb v 0) (allZero (drop from b))
     (λ h. all-zero (drop from b) (λ k. rw (getD-drop from b k 0) (passed (eqb-true v 0 h) (from + k) (omega arith))))
     (λ h. eq-eqb v 0 (kept (λ j le. (let e : from + (j - from) ≡ j = omega arith in rw e at (sym (getD-drop from b (j - from) 0) ∙ zero-all (drop from b) h (j - from))))))
-
-pub eight-of : {x y : ℕ} (b : List ℕ) (i : ℕ) → x ≡ longAt b i → y ≡ longAt b (i + 4) → Zeros b i 8 (x + 4294967296 * y)
-eight-of b i low high = rw (low, high) (eight-zero b i)
 
 -- below a number or from it on
 pub either-side : {A : Type 0} (i j : ℕ) → (j < i → A) → (i ≤ j → A) → A

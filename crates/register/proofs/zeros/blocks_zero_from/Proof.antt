@@ -3,11 +3,11 @@ use mathlib.Core.Path.{_≡_, refl}
 use Prim.Native.Nat.{ℕ, _+_, _-_, _≤_, _<_}
 use native.Mathlib.Omega.{arith}
 use lib.ListN.{List·getD-eq-default}
 use Rattle.register.specs.Bytes.{byteAt}
-use Rattle.journal.specs.Inner.Zeros.{AreZero, Clear}
-use Rattle.journal.proofs.Blocks.{or-parts, or-none, from-zero, either-side}
-use Rattle.journal.proofs.zeros.blocks_zero_from.Statement.{statement}
-use Rattle.journal.proofs.zeros.blocks_zero_from.Tie as tie
+use Rattle.register.specs.Inner.Zeros.{AreZero, Clear}
+use Rattle.register.proofs.Blocks.{or-parts, or-none, from-zero, either-side}
+use Rattle.register.proofs.zeros.blocks_zero_from.Statement.{statement}
+use Rattle.register.proofs.zeros.blocks_zero_from.Tie as tie
 
 abbrev Inv-loop : tie.InvT-loop
 Inv-loop bytes from last lanes₀ i₀ lanes i = (from ≤ i) × (Clear lanes → AreZero bytes last 64) × (Clear lanes → (j : ℕ) → from ≤ j → j < i → byteAt bytes j ≡ 0) × (((j : ℕ) → from ≤ j → byteAt bytes j ≡ 0) → Clear lanes)
