@@ -24,7 +24,7 @@ pub(crate) fn live_marks(day: u16, latest: u16, marks: u64) -> u64
 }
 
 // Whether a withdrawn read may have this day and value.
-pub(crate) fn may_have(latest: u16, marks: u64, day: u16, value: u32) -> bool
+pub fn may_have(latest: u16, marks: u64, day: u16, value: u32) -> bool
     ensures { λ r. ⌜ r ≡ mayHave latest marks day value ⌝ }
 {
     if latest < day {

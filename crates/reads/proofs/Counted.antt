@@ -13,12 +13,13 @@ use Rattle.register.specs.Entries.{entryStart, entryAt}
 use Rattle.register.specs.Head.{headOf, headBytes, mostEntries, bodyOf}
 use Rattle.journal.specs.declared.judge.Summary.{Summary}
 use Rattle.journal.specs.Journal.{Journal, journalOf, entriesTo, standing, withdrawn, kept, heldOf, isThere, newestAt}
-use Rattle.journal.specs.Sound.{areInOrder, areSound, daysRise}
+use Rattle.journal.specs.Sound.{any, hasRead, areInOrder, areSound, daysRise}
 use Rattle.journal.specs.Inner.Loops.{dayOf}
-use Rattle.journal.specs.Inner.Past.{latestDay}
+use Rattle.journal.specs.Inner.Past.{latestDay, marksOf, mayHave}
 use Rattle.journal.specs.Inner.Judged.{summaryOf, Counted}
 use Rattle.journal.specs.Inner.Survey.{countsOf}
 use Rattle.journal.proofs.Bools.{both}
+use Rattle.journal.proofs.Doubts.{none-had}
 use Rattle.journal.proofs.Entries.{length-entries, count-at-most}
 use Rattle.journal.proofs.InOrder.{days-rise}
 use Rattle.journal.proofs.Newest.{none-there, newest-entry, kept-all}
@@ -89,6 +90,14 @@ module _ (a : List ℕ) (t : Summary) (is : Counted a t) where
   pub latest-is : t .latest ≡ latestDay (withdrawn (journalOf a .entries))
   unfolding summaryOf
   latest-is = ap (λ (u : Summary). u .latest) (is .summary)
+
+  pub marks-are : t .marks ≡ marksOf (journalOf a .entries)
+  unfolding summaryOf
+  marks-are = ap (λ (u : Summary). u .marks) (is .summary)
+
+  -- after the last standing read, what is kept of the withdrawn ones is right to say no
+  pub none-kept : (day value : ℕ) → t .day < day → mayHave (t .latest) (t .marks) day value ≡ false → any (hasRead day value) (withdrawn (journalOf a .entries)) ≡ false
+  none-kept day value later unmarked = none-had day value (journalOf a .entries) rises (rw day-is at later) (rw (latest-is, marks-are) at unmarked)
 
   pub stands-is : t .counts .standing ≡ length (standing (journalOf a .entries))
   unfolding summaryOf countsOf

@@ -1,53 +1,51 @@
 // What stands or is withdrawn of a day and a value that a call names.
 ghost use mathlib.Core.Path.{_≡_};
-ghost use mathlib.Core.Bool.{true};
+ghost use mathlib.Core.List.{List, _∷_};
 ghost use Prim.Native.Nat.{_≤_};
-ghost use lib.Dec.{eqb};
 ghost use lib.ListN.{length};
-ghost use Rattle.terms.specs.declared.entry.Slot.the-variants.{Empty};
+ghost use Rattle.terms.specs.declared.entry.Entry.{Entry};
 ghost use Rattle.register.specs.Entries.{entryStart};
-ghost use Rattle.journal.specs.Journal.{journalOf, entriesTo, standing, withdrawn, slotIf, onDay};
-ghost use Rattle.journal.specs.Sound.{any, hasRead, daysRise};
+ghost use Rattle.journal.specs.Journal.{journalOf, entriesTo, standing, withdrawn, onDay};
+ghost use Rattle.journal.specs.Sound.{any, hasRead};
 ghost use Rattle.journal.specs.Inner.Judged.{Counted};
 use crate::read::entry_at;
-use crate::read::word_at;
 use crate::recent::last;
 use crate::room::has_entry;
 use crate::room::has_room;
 use journal::judge::Summary;
+use journal::past::may_have;
 use register::area::Layout;
 use register::head::head_bytes;
 use terms::entry::Entry;
 use terms::entry::Kind;
 use terms::entry::Slot;
 
-// The entry, if it is of a day.
-fn if_on(day: u16, e: Entry) -> Slot
-    ensures { λ r. ⌜ r ≡ slotIf (eqb (e .day) day) e Empty ⌝ }
+// The standing read of a day with one entry more.
+fn newer_on(found: Slot, day: u16, e: Entry) -> Slot
+    ensures { λ r. ⌜ ((es : List Entry) → found ≡ onDay day (standing es) → r ≡ onDay day (standing (e ∷ es))) ⌝ }
 {
-    if e.day == day {
+    if (e.kind == Kind::STANDING) & (e.day == day) {
         return Slot::Read(e);
     }
-    Slot::Empty
+    found
 }
 
-// The one of the first m entries that stands on a day. Standing days rise, so the last that is not later than the day is on it or none is.
+// The one of the first m entries that stands on a day.
 fn on_day(body: &[u8], m: u8, day: u16) -> Slot
     requires { ⌜ entryStart m ≤ length (now body) ⌝ }
-    ensures { λ r. ⌜ (daysRise (standing (entriesTo m (now (body .entry)))) ≡ true → r ≡ onDay day (standing (entriesTo m (now (body .entry))))) ⌝ }
+    ensures { λ r. ⌜ r ≡ onDay day (standing (entriesTo m (now (body .entry)))) ⌝ }
 {
-    let mut k = m;
-    while 0 < k {
-        let at = Layout::ENTRY_BYTES * ((k - 1) as usize);
-        if (body[at] == Kind::STANDING) & (word_at(body, at + 1) <= day) {
-            return if_on(day, entry_at(body, k - 1));
-        }
-        k -= 1;
+    let mut found = Slot::Empty;
+    let mut k: u8 = 0;
+    while k < m {
+        let e = entry_at(body, k);
+        found = newer_on(found, day, e);
+        k += 1;
     }
-    Slot::Empty
+    found
 }
 
-// The read that stands on a day. The day of the last one is known; a later day has none, and an earlier one is searched before the last.
+// The read that stands on a day. The day of the last one is known; a later day has none, and an earlier one is searched for before the last.
 pub fn read_on(area: &[u8], t: Summary, day: u16) -> Slot
     ensures { λ r. ⌜ (Counted (now (area .entry)) t → r ≡ onDay day (standing (journalOf (now (area .entry)) .entries))) ⌝ }
 {
@@ -97,11 +95,15 @@ fn is_among(body: &[u8], m: u8, day: u16, value: u32) -> bool
     found
 }
 
-// A read with this day and value was withdrawn. No withdrawn read is of a day after the latest.
+// A read with this day and value was withdrawn. No withdrawn read is of a day after the latest, and after the last standing read the marks
+// tell of most that none is it.
 pub fn has_withdrawn(area: &[u8], t: Summary, day: u16, value: u32) -> bool
     ensures { λ r. ⌜ (Counted (now (area .entry)) t → r ≡ any (hasRead day value) (withdrawn (journalOf (now (area .entry)) .entries))) ⌝ }
 {
     if t.latest < day {
+        return false;
+    }
+    if (t.day < day) & !may_have(t.latest, t.marks, day, value) {
         return false;
     }
     let head = t.head;

@@ -14,7 +14,7 @@ use Rattle.journal.proofs.Bools.{false-is}
 use Rattle.journal.proofs.Clashes.{none-on, some-day}
 use Rattle.reads.specs.Inner.Room.{hasRoom}
 use Rattle.reads.proofs.Lent.{lent-room, start-room}
-use Rattle.reads.proofs.Days.{last-on, before-last, rise-before}
+use Rattle.reads.proofs.Days.{last-on, before-last}
 use Rattle.reads.proofs.Counted.{rises, day-is, stands-is, newest-room, lent-last}
 use borrow.Author.Needs.{needs}
 use Rattle.reads.proofs.found.read_on.Statement.{statement}
@@ -79,7 +79,7 @@ returns-4 c =
     λ is.
     let last = lent-last _ t is (some at is) (h .head-bytes .ensures) in
     let day = day-is _ t is ∙ ap (λ (ss : List Entry). dayOf (slotAt ss 0)) last in
-    c .on-day .ensures (rise-before _ _ (rw last at (rises _ t is)))
+    c .on-day .ensures
     ∙ before-last _ _ _ (omega (arith, earlier at, day))
     ∙ sym (ap (λ (ss : List Entry). onDay (start at .args .day) ss) last)
 
