@@ -1,22 +1,17 @@
 -- Standing reads apart from withdrawn ones: what one entry more adds, and when nothing need be compared.
 use mathlib.Core.Path.{_≡_, refl, sym, _∙_}
-use mathlib.Core.Bool.{Bool, true, false, not, _&&_, _||_, and-false}
+use mathlib.Core.Bool.{Bool, true, false, not, _&&_, _||_}
 use mathlib.Core.List.{List, [], _∷_}
-use Prim.Native.Nat.{ℕ, zero, suc, _+_, _-_, _≤_, _<_}
+use Prim.Native.Nat.{ℕ, _<_}
 use native.Mathlib.Omega.{arith}
 use borrow.Author.Tests.{ltb-true, ltb-false, eqb-true, eqb-false, eq-eqb, ne-eqb}
 use lib.Dec.{eqb, ltb}
-use lib.ListN.{length}
 use Rattle.terms.specs.declared.entry.Entry.{Entry}
-use Rattle.terms.specs.declared.entry.Slot.the-variants.{Empty}
 use Rattle.terms.specs.Entry.{kindStanding, kindWithdrawn, isStanding, isWithdrawn, keepIf, those, slotAt}
-use Rattle.register.specs.declared.head.Head.{Head}
-use Rattle.register.specs.Entries.{entryStart, entryAt}
-use Rattle.journal.specs.Journal.{entriesTo, standing, withdrawn, heldOf, onDay}
-use Rattle.journal.specs.Sound.{any, every, hasRead, areApart, areInOrder, areSound, daysRise, isLater, isFinalRead}
+use Rattle.journal.specs.Journal.{standing, withdrawn}
+use Rattle.journal.specs.Sound.{any, every, hasRead, areApart, daysRise, isLater}
 use Rattle.journal.specs.Inner.Loops.{dayOf}
 use Rattle.journal.specs.Inner.Past.{laterOf, latestDay, clashes}
-use Rattle.journal.specs.Inner.Survey.{foundLast, foundOf}
 use Rattle.journal.proofs.Bools.{false-is, both, or-none}
 
 -- ---- one entry more
@@ -96,38 +91,3 @@ module _ (day value : ℕ) where
       let falls : t .day < s .day = ltb-true _ _ (c .0) in
       let other : s .day ≡ day → ⊥ = λ e. omega arith in
       rw (ne-eqb (s .day) day other) (none-stands (t ∷ ss) (c .1) (omega arith))
-
-  pub none-on : (ss : List Entry) → daysRise ss ≡ true → dayOf (slotAt ss 0) < day → onDay day ss ≡ Empty
-  unfolding onDay daysRise dayOf slotAt
-  none-on [] r l = refl
-  none-on (s ∷ []) r l =
-      let other : s .day ≡ day → ⊥ = λ e. omega arith in
-      rw (ne-eqb (s .day) day other)
-  none-on (s ∷ t ∷ ss) r l =
-      let c = both (isLater s t) (daysRise (t ∷ ss)) r in
-      let falls : t .day < s .day = ltb-true _ _ (c .0) in
-      let other : s .day ≡ day → ⊥ = λ e. omega arith in
-      rw (ne-eqb (s .day) day other) (none-on (t ∷ ss) (c .1) (omega arith))
-
-  pub nothing-found : (es : List Entry) → daysRise (standing es) ≡ true → dayOf (slotAt (standing es) 0) < day → latestDay (withdrawn es) < day → foundOf day value [] ≡ foundOf day value es
-  unfolding foundOf those any onDay
-  nothing-found es r l w = rw (none-on (standing es) r l, none-stands (standing es) r l, none-as-late (withdrawn es) w)
-
--- the last standing read alone is of its day
-pub none-before : (day value : ℕ) (s : Entry) (ss : List Entry) → daysRise (s ∷ ss) ≡ true → s .day ≡ day → any (hasRead day value) ss ≡ false
-unfolding daysRise any dayOf slotAt
-none-before day value s [] r e = refl
-none-before day value s (t ∷ ss) r e =
-    let c = both (isLater s t) (daysRise (t ∷ ss)) r in
-    let falls : t .day < s .day = ltb-true _ _ (c .0) in
-    none-stands day value (t ∷ ss) (c .1) (omega arith)
-
-pub last-found : (day value : ℕ) (es : List Entry) {s : Entry} {ss : List Entry} → standing es ≡ s ∷ ss → daysRise (standing es) ≡ true → s .day ≡ day → latestDay (withdrawn es) < day → foundLast value s ≡ foundOf day value es
-unfolding foundLast foundOf onDay any hasRead
-last-found day value es {s} {ss} last rise e late =
-    rw (last, none-as-late day value (withdrawn es) late, eq-eqb (s .day) day e, none-before day value s ss (rw last at rise) e, or-none (eqb (s .value) value))
-
-pub some-day : (ss : List Entry) → 0 < dayOf (slotAt ss 0) → length ss ≡ 0 → ⊥
-unfolding dayOf slotAt
-some-day [] h z = omega arith
-some-day (s ∷ ss) h z = omega arith

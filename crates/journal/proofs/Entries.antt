@@ -15,7 +15,6 @@ use Rattle.register.specs.Entries.{entryStart, entryAt}
 use Rattle.register.specs.Head.{headOf, mostEntries, bodyOf}
 use Rattle.journal.specs.Journal.{entriesTo, countFrom, entryCount, standing}
 use Rattle.journal.specs.Sound.{any}
-use Rattle.journal.specs.Inner.Back.{EndsStanding}
 
 -- one entry more
 module _ (k : ℕ) (a : List ℕ) where
@@ -106,15 +105,3 @@ count-at-least (suc left) k a =
 
 pub count-past : (most k : ℕ) (a : List ℕ) → countFrom (most - k) k a ≡ countFrom most 0 a → k ≤ countFrom most 0 a
 count-past most k a h = rw h at (count-at-least (most - k) k a)
-
--- ---- the standing ones of some entries, by the last of them
-module _ (a : List ℕ) (m r : ℕ) (ends : EndsStanding a m r) where
-  pub none-left : r ≡ 0 → standing (entriesTo m a) ≡ []
-  unfolding entriesTo those
-  none-left e = sym (ends .same) ∙ rw e
-
-  pub one-left : (r ≡ 0 → ⊥) → standing (entriesTo m a) ≡ entryAt a (entryStart (r - 1)) ∷ standing (entriesTo (r - 1) a)
-  unfolding those
-  one-left some =
-      let e : r ≡ suc (r - 1) = omega (arith, some) in
-      sym (ends .same) ∙ rw (last-entry a e, ends .stands (r - 1) e)

@@ -1,7 +1,6 @@
 pub mod Bools
 pub mod Entries
 pub mod InOrder
-pub mod Steps
 pub mod Bits
 pub mod Clashes
 pub mod Doubts

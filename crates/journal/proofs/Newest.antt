@@ -20,8 +20,7 @@ use Rattle.journal.specs.Sound.{any, isFinalRead, isInRange, isRead, are
 use Rattle.journal.specs.Inner.Follow.{mayFollow}
 use Rattle.journal.specs.Inner.Run.{runOf}
 use Rattle.journal.specs.Inner.Pass.{passOf}
-use Rattle.journal.specs.Inner.Survey.{countsOf}
-use Rattle.journal.specs.Inner.Judged.{valueOf, summaryOf}
+use Rattle.journal.specs.Inner.Judged.{valueOf, countsOf, summaryOf}
 use Rattle.journal.proofs.Bools.{false-is, both}
 use Rattle.journal.proofs.Entries.{length-entries}
 use Rattle.journal.proofs.InOrder.{in-order-more}

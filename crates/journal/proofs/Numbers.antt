@@ -1,4 +1,4 @@
--- What a survey finds has the number of the first of the two rules that is broken.
+-- What a judgement finds has the number of the first of the two rules that is broken.
 use mathlib.Core.Path.{_≡_, refl}
 use mathlib.Core.Bool.{Bool, true, false, not, cond}
 use mathlib.Core.List.{List}
@@ -8,41 +8,22 @@ use Rattle.register.specs.Area.{allZero}
 use Rattle.journal.specs.declared.judge.Judged.{Judged}
 use Rattle.journal.specs.declared.judge.Judged.the-variants as judge
 use Rattle.journal.specs.declared.judge.Summary.{Summary}
-use Rattle.journal.specs.declared.survey.Survey.{Survey}
-use Rattle.journal.specs.declared.survey.Surveyed.{Surveyed}
-use Rattle.journal.specs.declared.survey.Surveyed.the-variants.{Zero, Damaged, Sound}
 use Rattle.journal.specs.Journal.{journalOf}
 use Rattle.journal.specs.Sound.{isSound}
 use Rattle.journal.specs.Inner.Judged.{summaryOf, judged, Judges}
-use Rattle.journal.specs.Inner.Survey.{surveyOf, surveyed, Surveys}
-use Rattle.journal.specs.Numbers.{areaRules, judgedNumber, surveyedNumber}
+use Rattle.journal.specs.Numbers.{areaRules, judgedNumber}
 
 -- by the two tests
-by-tests : (zero sound : Bool) (v : Survey) → surveyedNumber (cond zero Zero (cond sound (Sound v) Damaged)) ≡ cond zero noMeter (cond (not sound) damaged accepted)
-unfolding surveyedNumber
-by-tests true sound v = refl
-by-tests false true v = refl
-by-tests false false v = refl
-
-pub surveys : (day value : ℕ) (area : List ℕ) {found : Surveyed} → found ≡ surveyed day value area → Surveys day value area found
-unfolding surveyed areaRules
-surveys day value area e =
-    record {
-      found-is = e;
-      number-is = λ size. rw (e, size) (by-tests (allZero area) (isSound area) (surveyOf day value (journalOf area)));
-    }
-
--- the same of a judgement
-by-judgement : (zero sound : Bool) (t : Summary) → judgedNumber (cond zero judge.Zero (cond sound (judge.Sound t) judge.Damaged)) ≡ cond zero noMeter (cond (not sound) damaged accepted)
+by-tests : (zero sound : Bool) (t : Summary) → judgedNumber (cond zero judge.Zero (cond sound (judge.Sound t) judge.Damaged)) ≡ cond zero noMeter (cond (not sound) damaged accepted)
 unfolding judgedNumber
-by-judgement true sound t = refl
-by-judgement false true t = refl
-by-judgement false false t = refl
+by-tests true sound t = refl
+by-tests false true t = refl
+by-tests false false t = refl
 
 pub judges : (area : List ℕ) {found : Judged} → found ≡ judged area → Judges area found
 unfolding judged areaRules
 judges area e =
     record {
       found-is = e;
-      number-is = λ size. rw (e, size) (by-judgement (allZero area) (isSound area) (summaryOf (journalOf area)));
+      number-is = λ size. rw (e, size) (by-tests (allZero area) (isSound area) (summaryOf (journalOf area)));
     }

@@ -7,6 +7,4 @@ pub mod Run
 pub mod Plain
 pub mod Pass
 pub mod Halving
-pub mod Back
-pub mod Survey
 pub mod Judged

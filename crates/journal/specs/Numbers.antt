@@ -1,4 +1,4 @@
--- 01, Calls: the numbers of the table that an area alone decides, and the paper's number for each thing that a judgement or a survey finds.
+-- 01, Calls: the numbers of the table that an area alone decides, and the paper's number for each thing that a judgement finds.
 use mathlib.Core.Bool.{not}
 use mathlib.Core.List.{List, [], _∷_}
 use Prim.Native.Nat.{ℕ}
@@ -7,8 +7,6 @@ use Rattle.terms.specs.Rule.{Rule, rule}
 use Rattle.register.specs.Area.{allZero}
 use Rattle.journal.specs.declared.judge.Judged.{Judged}
 use Rattle.journal.specs.declared.judge.Judged.the-variants as judged
-use Rattle.journal.specs.declared.survey.Surveyed.{Surveyed}
-use Rattle.journal.specs.declared.survey.Surveyed.the-variants as surveyed
 use Rattle.journal.specs.Sound.{isSound}
 
 -- 3: "area all zero"; 4: "area neither zero nor sound"
@@ -19,8 +17,3 @@ unfoldable pub judgedNumber : Judged → ℕ
 judgedNumber judged.Zero = noMeter
 judgedNumber judged.Damaged = damaged
 judgedNumber (judged.Sound summary) = accepted
-
-unfoldable pub surveyedNumber : Surveyed → ℕ
-surveyedNumber surveyed.Zero = noMeter
-surveyedNumber surveyed.Damaged = damaged
-surveyedNumber (surveyed.Sound survey) = accepted

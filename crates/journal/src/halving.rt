@@ -9,7 +9,7 @@ ghost use Rattle.journal.specs.Journal.{entriesTo, standing, withdrawn};
 ghost use Rattle.journal.specs.Sound.{any, hasRead, daysRise, areApart};
 ghost use Rattle.journal.specs.Inner.Loops.{dayOf};
 ghost use Rattle.journal.specs.Inner.Halving.{placed, Places, Inside, Between};
-use crate::found::has_read;
+use crate::order::has_read;
 use crate::order::is_withdrawn;
 use crate::read::entry_at;
 use crate::read::word_at;

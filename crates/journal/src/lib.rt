@@ -1,6 +1,5 @@
 // The journal: what an area's bytes mean, for any bytes whatever.
 mod apart;
-pub mod found;
 mod halving;
 pub mod judge;
 pub mod limits;
@@ -12,4 +11,3 @@ pub mod plate;
 mod read;
 pub mod run;
 pub mod slot;
-pub mod survey;

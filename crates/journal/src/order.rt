@@ -3,7 +3,7 @@ ghost use mathlib.Core.Path.{_≡_};
 ghost use Rattle.terms.specs.Entry.{isStanding, isWithdrawn, isHeld};
 ghost use Rattle.arithmetic.specs.Powers.{tenTo};
 ghost use Rattle.register.specs.declared.head.Head.{Head};
-ghost use Rattle.journal.specs.Sound.{isInRange, isRead, isFinalRead};
+ghost use Rattle.journal.specs.Sound.{hasRead, isInRange, isRead, isFinalRead};
 ghost use Rattle.journal.specs.Inner.Loops.{standsBy, followsBy};
 use terms::entry::Entry;
 use terms::entry::Kind;
@@ -35,6 +35,12 @@ pub(crate) fn is_final(e: Entry) -> bool
     ensures { λ r. ⌜ r ≡ isFinalRead e ⌝ }
 {
     e.letter == Letter::FINAL
+}
+
+pub(crate) fn has_read(day: u16, value: u32, e: Entry) -> bool
+    ensures { λ r. ⌜ r ≡ hasRead day value e ⌝ }
+{
+    (e.day == day) & (e.value == value)
 }
 
 // The ranges of an entry's fields; the limit is 10^n. Most entries pass every test, so that the early returns cost little.

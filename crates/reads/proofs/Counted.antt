@@ -16,8 +16,7 @@ use Rattle.journal.specs.Journal.{Journal, journalOf, entriesTo, standing, with
 use Rattle.journal.specs.Sound.{any, hasRead, areInOrder, areSound, daysRise}
 use Rattle.journal.specs.Inner.Loops.{dayOf}
 use Rattle.journal.specs.Inner.Past.{latestDay, marksOf, mayHave}
-use Rattle.journal.specs.Inner.Judged.{summaryOf, Counted}
-use Rattle.journal.specs.Inner.Survey.{countsOf}
+use Rattle.journal.specs.Inner.Judged.{countsOf, summaryOf, Counted}
 use Rattle.journal.proofs.Bools.{both}
 use Rattle.journal.proofs.Doubts.{none-had}
 use Rattle.journal.proofs.Entries.{length-entries, count-at-most}

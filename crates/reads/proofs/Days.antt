@@ -4,7 +4,7 @@ use mathlib.Core.Bool.{Bool, true, false, _&&_, _||_}
 use mathlib.Core.List.{List, [], _∷_}
 use Prim.Native.Nat.{ℕ, _<_}
 use native.Mathlib.Omega.{arith}
-use borrow.Author.Tests.{eqb-true, eq-eqb, ne-eqb}
+use borrow.Author.Tests.{ltb-true, eqb-true, eq-eqb, ne-eqb}
 use lib.Dec.{eqb}
 use lib.ListN.{length}
 use Rattle.terms.specs.declared.entry.Entry.{Entry}
@@ -15,13 +15,40 @@ use Rattle.journal.specs.Journal.{standing, slotIf, onDay}
 use Rattle.journal.specs.Sound.{any, hasRead, daysRise, isLater}
 use Rattle.journal.specs.Inner.Loops.{dayOf}
 use Rattle.journal.proofs.Bools.{both, or-none}
-use Rattle.journal.proofs.Clashes.{none-before}
+use Rattle.journal.proofs.Clashes.{none-stands}
 
 -- ---- the reads before one
 pub rise-before : (s : Entry) (ss : List Entry) → daysRise (s ∷ ss) ≡ true → daysRise ss ≡ true
 unfolding daysRise
 rise-before s [] r = refl
 rise-before s (t ∷ ss) r = both (isLater s t) (daysRise (t ∷ ss)) r .1
+
+-- ---- a day after the last one, and the day of the last one
+pub none-on : (day : ℕ) (ss : List Entry) → daysRise ss ≡ true → dayOf (slotAt ss 0) < day → onDay day ss ≡ Empty
+unfolding onDay daysRise dayOf slotAt
+none-on day [] r l = refl
+none-on day (s ∷ []) r l =
+    let other : s .day ≡ day → ⊥ = λ e. omega arith in
+    rw (ne-eqb (s .day) day other)
+none-on day (s ∷ t ∷ ss) r l =
+    let c = both (isLater s t) (daysRise (t ∷ ss)) r in
+    let falls : t .day < s .day = ltb-true _ _ (c .0) in
+    let other : s .day ≡ day → ⊥ = λ e. omega arith in
+    rw (ne-eqb (s .day) day other) (none-on day (t ∷ ss) (c .1) (omega arith))
+
+-- the last standing read alone is of its day
+none-before : (day value : ℕ) (s : Entry) (ss : List Entry) → daysRise (s ∷ ss) ≡ true → s .day ≡ day → any (hasRead day value) ss ≡ false
+unfolding daysRise any dayOf slotAt
+none-before day value s [] r e = refl
+none-before day value s (t ∷ ss) r e =
+    let c = both (isLater s t) (daysRise (t ∷ ss)) r in
+    let falls : t .day < s .day = ltb-true _ _ (c .0) in
+    none-stands day value (t ∷ ss) (c .1) (omega arith)
+
+pub some-day : (ss : List Entry) → 0 < dayOf (slotAt ss 0) → length ss ≡ 0 → ⊥
+unfolding dayOf slotAt
+some-day [] h z = omega arith
+some-day (s ∷ ss) h z = omega arith
 
 -- ---- with one entry more
 keep-on : (b : Bool) (day : ℕ) (e : Entry) (ss : List Entry) → onDay day (keepIf b e ss) ≡ slotIf (b && eqb (e .day) day) e (onDay day ss)

@@ -1,3 +1,4 @@
 pub mod Lent
 pub mod Days
 pub mod Counted
+pub mod Back

@@ -6,7 +6,7 @@ ghost use lib.ListN.{length};
 ghost use Rattle.terms.specs.Entry.{slotAt, recentOf};
 ghost use Rattle.register.specs.Entries.{entryStart, entryAt};
 ghost use Rattle.journal.specs.Journal.{journalOf, entriesTo, standing};
-ghost use Rattle.journal.specs.Inner.Back.{EndsStanding};
+ghost use Rattle.reads.specs.Inner.Back.{EndsStanding};
 ghost use Rattle.journal.specs.Inner.Judged.{Counted};
 use crate::read::entry_at;
 use crate::room::entry_in;

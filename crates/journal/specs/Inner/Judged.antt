@@ -9,25 +9,35 @@ use Rattle.arithmetic.specs.Powers.{tenTo}
 use Rattle.terms.specs.declared.entry.Entry.{Entry}
 use Rattle.terms.specs.declared.entry.Slot.{Slot}
 use Rattle.terms.specs.declared.entry.Slot.the-variants.{Read, Empty}
-use Rattle.terms.specs.Entry.{slotAt}
+use Rattle.terms.specs.Entry.{those, slotAt}
 use Rattle.terms.specs.Rule.{firstBroken}
 use Rattle.register.specs.Area.{areaBytes, allZero}
 use Rattle.register.specs.declared.head.Head.{Head}
 use Rattle.register.specs.Entries.{entryStart}
 use Rattle.register.specs.Head.{mostEntries}
+use Rattle.journal.specs.declared.judge.Counts.{Counts}
 use Rattle.journal.specs.declared.judge.Summary.{Summary}
 use Rattle.journal.specs.declared.judge.Judged.{Judged}
 use Rattle.journal.specs.declared.judge.Judged.the-variants.{Zero, Damaged, Sound}
-use Rattle.journal.specs.Journal.{Journal, journalOf, entriesTo, countFrom, standing, withdrawn}
+use Rattle.journal.specs.Journal.{Journal, journalOf, entriesTo, countFrom, standing, withdrawn, kept, isFlagged, firstValue, newestAt}
 use Rattle.journal.specs.Numbers.{areaRules, judgedNumber}
 use Rattle.journal.specs.Sound.{isSound, areSound, any, isFinalRead}
 use Rattle.journal.specs.Inner.Past.{latestDay, lastDay, marksOf}
-use Rattle.journal.specs.Inner.Survey.{countsOf}
 
 -- the value of a read, and 0 where there is none
 unfoldable pub valueOf : Slot → ℕ
 valueOf (Read e) = e .value
 valueOf Empty = 0
+
+unfoldable pub countsOf : List Entry → Counts
+countsOf es =
+    record {
+      kept = kept es;
+      standing = length (standing es);
+      flagged = length (those isFlagged (standing es));
+      first = firstValue (standing es);
+      newest = newestAt es;
+    }
 
 unfoldable pub summaryOf : Journal → Summary
 summaryOf j =

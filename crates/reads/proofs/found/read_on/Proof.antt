@@ -11,10 +11,9 @@ use Rattle.journal.specs.Journal.{journalOf, standing, onDay}
 use Rattle.journal.specs.Inner.Loops.{dayOf}
 use Rattle.journal.specs.Inner.Judged.{Counted}
 use Rattle.journal.proofs.Bools.{false-is}
-use Rattle.journal.proofs.Clashes.{none-on, some-day}
 use Rattle.reads.specs.Inner.Room.{hasRoom}
 use Rattle.reads.proofs.Lent.{lent-room, start-room}
-use Rattle.reads.proofs.Days.{last-on, before-last}
+use Rattle.reads.proofs.Days.{none-on, some-day, last-on, before-last}
 use Rattle.reads.proofs.Counted.{rises, day-is, stands-is, newest-room, lent-last}
 use borrow.Author.Needs.{needs}
 use Rattle.reads.proofs.found.read_on.Statement.{statement}
@@ -23,7 +22,7 @@ use Rattle.reads.proofs.found.read_on.Tie as tie
 returns : tie.Need-returns
 returns c =
     let t = c .before .before .before .args .t in
-    λ is. sym (none-on _ 0 _ (rises _ t is) (omega (arith, day-is _ t is, c .if1 .taken)))
+    λ is. sym (none-on _ _ (rises _ t is) (omega (arith, day-is _ t is, c .if1 .taken)))
 
 last-requires : tie.Need-last-requires
 last-requires c κs = search needs

@@ -1,7 +1,7 @@
 -- One step back finds the last standing entry, or that there is none.
 use native.Mathlib.Omega.{arith}
 use Rattle.terms.specs.Entry.{slotAt}
-use Rattle.journal.proofs.Entries.{none-left, one-left}
+use Rattle.reads.proofs.Back.{none-left, one-left}
 use borrow.Author.Needs.{needs}
 use Rattle.reads.proofs.recent.last_over.Statement.{statement}
 use Rattle.reads.proofs.recent.last_over.Tie as tie

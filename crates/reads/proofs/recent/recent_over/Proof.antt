@@ -1,7 +1,7 @@
 -- One step back finds the standing entry before the last, or that there is none, and another the one before that.
 use native.Mathlib.Omega.{arith}
 use Rattle.terms.specs.Entry.{slotAt, recentOf}
-use Rattle.journal.proofs.Entries.{none-left, one-left}
+use Rattle.reads.proofs.Back.{none-left, one-left}
 use borrow.Author.Needs.{needs}
 use Rattle.reads.proofs.recent.recent_over.Statement.{statement}
 use Rattle.reads.proofs.recent.recent_over.Tie as tie
