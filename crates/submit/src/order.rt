@@ -4,12 +4,12 @@ ghost use mathlib.Core.List.{List};
 ghost use Rattle.terms.specs.declared.entry.Entry.{Entry};
 ghost use Rattle.terms.specs.Entry.{slotAt};
 ghost use Rattle.terms.specs.Rule.{firstBroken};
-ghost use Rattle.journal.specs.Journal.{Journal, kept};
+ghost use Rattle.journal.specs.Journal.{Journal, standing, kept, heldOf};
 ghost use Rattle.journal.specs.Sound.{any, isFinalRead};
+ghost use Rattle.journal.specs.Inner.Judged.{summaryOf};
 ghost use Rattle.calls.specs.Checks.{isBackDated, isUnopened, isATLater, isOpeningIndicated, isHeldEqual, isUnheldReread, isFull, orderRules};
-ghost use Rattle.submit.specs.Inner.Decision.{surveyFor};
+use journal::judge::Summary;
 use journal::slot::is_there;
-use journal::survey::Survey;
 use register::head::Head;
 use register::head::most_entries;
 use terms::entry::Slot;
@@ -78,21 +78,17 @@ fn is_full(head: Head, count: u8) -> bool
 }
 
 // The number of the first rule broken, or 0.
-pub(crate) fn order_number(s: Submission, v: Survey) -> u8
-    ensures { λ r. ⌜ ((j : Journal) → v ≡ surveyFor s j → r ≡ firstBroken (orderRules s j)) ⌝ }
+pub(crate) fn order_number(s: Submission, t: Summary, last: Slot, held: Slot) -> u8
+    ensures { λ r. ⌜ ((j : Journal) → t ≡ summaryOf j → last ≡ slotAt (standing (j .entries)) 0 → held ≡ heldOf (j .entries) → r ≡ firstBroken (orderRules s j)) ⌝ }
 {
-    let head = v.head;
-    let recent = v.recent;
-    let last = recent.last;
-    let held = v.held;
-    let counts = v.counts;
+    let counts = t.counts;
     if is_back_dated(s, last) {
         return Number::BACK_DATED;
     }
     if is_unopened(s, last) {
         return Number::DF;
     }
-    if is_at_later(s, last, v.ended) {
+    if is_at_later(s, last, t.ended) {
         return Number::AT;
     }
     if is_opening_indicated(s) {
@@ -101,7 +97,7 @@ pub(crate) fn order_number(s: Submission, v: Survey) -> u8
     if is_unheld_reread(s, held) {
         return Number::NO_ORIGINAL;
     }
-    if is_full(head, counts.kept) {
+    if is_full(t.head, counts.kept) {
         return Number::FULL;
     }
     Number::ACCEPTED

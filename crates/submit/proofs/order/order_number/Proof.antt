@@ -1,42 +1,28 @@
 -- The first test that holds decides, in the order of the group.
-use mathlib.Core.Path.{_≡_, refl, sym, ap, _∙_}
-use mathlib.Core.Bool.{Bool}
-use Rattle.terms.specs.Entry.{recentOf, slotAt}
-use Rattle.journal.specs.declared.survey.Survey.{Survey}
-use Rattle.journal.specs.Journal.{Journal, standing, heldOf}
-use Rattle.journal.specs.Inner.Survey.{countsOf, surveyOf}
-use Rattle.calls.specs.Checks.{isBackDated, isUnopened, isATLater, isUnheldReread, isFull, orderRules}
-use Rattle.submit.specs.Inner.Decision.{surveyFor}
+use mathlib.Core.Path.{_≡_, ap}
+use Rattle.journal.specs.declared.judge.Summary.{Summary}
+use Rattle.journal.specs.Journal.{Journal, standing, kept}
+use Rattle.journal.specs.Sound.{any, isFinalRead}
+use Rattle.journal.specs.Inner.Judged.{summaryOf}
+use Rattle.journal.specs.Inner.Survey.{countsOf}
+use Rattle.calls.specs.Checks.{orderRules}
 use borrow.Author.Needs.{needs}
 use Rattle.submit.proofs.order.order_number.Statement.{statement}
 use Rattle.submit.proofs.order.order_number.Tie as tie
 
--- what each test finds of the survey is what it finds of the journal
-abbrev Of : tie.Start → Journal → Type 0
-Of start j = start .args .v ≡ surveyFor (start .args .s) j
+-- what was counted of the journal
+module _ {t : Summary} (j : Journal) (e : t ≡ summaryOf j) where
+  head-is : t .head ≡ j .head
+  unfolding summaryOf
+  head-is = ap (λ (u : Summary). u .head) e
 
-abbrev surveyed : tie.After-is-back-dated → tie.Start
-surveyed c = c .before .before .before .before
+  kept-is : t .counts .kept ≡ kept (j .entries)
+  unfolding summaryOf countsOf
+  kept-is = ap (λ (u : Summary). u .counts .kept) e
 
-back-dated-is : (c : tie.After-is-back-dated) (j : Journal) → Of (surveyed c) j → isBackDated (surveyed c .args .s) (slotAt (standing (j .entries)) 0) ≡ c .is-back-dated .result
-unfolding surveyOf recentOf
-back-dated-is c j e = sym (rw e at (c .is-back-dated .ensures))
-
-unopened-is : (c : tie.After-is-unopened) (j : Journal) → let d = c .before .before in Of (surveyed d) j → isUnopened (surveyed d .args .s) (standing (j .entries)) ≡ c .is-unopened .result
-unfolding surveyOf recentOf
-unopened-is c j e = sym (c .is-unopened .ensures _ (ap (λ (v : Survey). v .recent .last) e))
-
-at-later-is : (c : tie.After-is-at-later) (j : Journal) → let d = c .before .before .before .before in Of (surveyed d) j → isATLater (surveyed d .args .s) (standing (j .entries)) ≡ c .is-at-later .result
-unfolding surveyOf recentOf
-at-later-is c j e = sym (c .is-at-later .ensures _ (ap (λ (v : Survey). v .recent .last) e) (ap (λ (v : Survey). v .ended) e))
-
-unheld-is : (c : tie.After-is-unheld-reread) (j : Journal) → let d = c .before .before .before .before .before .before .before .before in Of (surveyed d) j → isUnheldReread (surveyed d .args .s) (heldOf (j .entries)) ≡ c .is-unheld-reread .result
-unfolding surveyOf
-unheld-is c j e = sym (rw e at (c .is-unheld-reread .ensures))
-
-full-is : (c : tie.After-is-full) (j : Journal) → let d = c .before .before .before .before .before .before .before .before .before .before in Of (surveyed d) j → isFull j ≡ c .is-full .result
-unfolding surveyOf countsOf
-full-is c j e = sym (c .is-full .ensures j (ap (λ (v : Survey). v .head) e) (ap (λ (v : Survey). v .counts .kept) e))
+  ended-is : t .ended ≡ any isFinalRead (standing (j .entries))
+  unfolding summaryOf
+  ended-is = ap (λ (u : Summary). u .ended) e
 
 is-back-dated-requires : tie.Need-is-back-dated-requires
 is-back-dated-requires c κs = search needs
@@ -44,9 +30,10 @@ is-back-dated-requires c κs = search needs
 returns : tie.Need-returns
 unfolding orderRules
 returns c =
-    λ j e.
+    λ j e l h.
     rw (
-      back-dated-is (c .before) j e,
+      ← l,
+      ← c .before .is-back-dated .ensures,
       c .if1 .taken,
     )
 
@@ -56,11 +43,13 @@ is-unopened-requires c κs = search needs
 returns-2 : tie.Need-returns-2
 unfolding orderRules
 returns-2 c =
-    λ j e.
+    let e₁ = c .before .before in
+    λ j e l h.
     rw (
-      back-dated-is (c .before .before .before) j e,
-      c .before .before .if1 .left,
-      unopened-is (c .before) j e,
+      ← l,
+      ← e₁ .before .is-back-dated .ensures,
+      e₁ .if1 .left,
+      ← c .before .is-unopened .ensures _ l,
       c .if2 .taken,
     )
 
@@ -70,13 +59,16 @@ is-at-later-requires c κs = search needs
 returns-3 : tie.Need-returns-3
 unfolding orderRules
 returns-3 c =
-    λ j e.
+    let e₂ = c .before .before in
+    let e₁ = e₂ .before .before in
+    λ j e l h.
     rw (
-      back-dated-is (c .before .before .before .before .before) j e,
-      c .before .before .before .before .if1 .left,
-      unopened-is (c .before .before .before) j e,
-      c .before .before .if2 .left,
-      at-later-is (c .before) j e,
+      ← l,
+      ← e₁ .before .is-back-dated .ensures,
+      e₁ .if1 .left,
+      ← e₂ .before .is-unopened .ensures _ l,
+      e₂ .if2 .left,
+      ← c .before .is-at-later .ensures _ l (ended-is j e),
       c .if3 .taken,
     )
 
@@ -86,14 +78,18 @@ is-opening-indicated-requires c κs = search needs
 returns-4 : tie.Need-returns-4
 unfolding orderRules
 returns-4 c =
-    λ j e.
+    let e₃ = c .before .before in
+    let e₂ = e₃ .before .before in
+    let e₁ = e₂ .before .before in
+    λ j e l h.
     rw (
-      back-dated-is (c .before .before .before .before .before .before .before) j e,
-      c .before .before .before .before .before .before .if1 .left,
-      unopened-is (c .before .before .before .before .before) j e,
-      c .before .before .before .before .if2 .left,
-      at-later-is (c .before .before .before) j e,
-      c .before .before .if3 .left,
+      ← l,
+      ← e₁ .before .is-back-dated .ensures,
+      e₁ .if1 .left,
+      ← e₂ .before .is-unopened .ensures _ l,
+      e₂ .if2 .left,
+      ← e₃ .before .is-at-later .ensures _ l (ended-is j e),
+      e₃ .if3 .left,
       ← c .before .is-opening-indicated .ensures,
       c .if4 .taken,
     )
@@ -104,17 +100,23 @@ is-unheld-reread-requires c κs = search needs
 returns-5 : tie.Need-returns-5
 unfolding orderRules
 returns-5 c =
-    λ j e.
+    let e₄ = c .before .before in
+    let e₃ = e₄ .before .before in
+    let e₂ = e₃ .before .before in
+    let e₁ = e₂ .before .before in
+    λ j e l h.
     rw (
-      back-dated-is (c .before .before .before .before .before .before .before .before .before) j e,
-      c .before .before .before .before .before .before .before .before .if1 .left,
-      unopened-is (c .before .before .before .before .before .before .before) j e,
-      c .before .before .before .before .before .before .if2 .left,
-      at-later-is (c .before .before .before .before .before) j e,
-      c .before .before .before .before .if3 .left,
-      ← c .before .before .before .is-opening-indicated .ensures,
-      c .before .before .if4 .left,
-      unheld-is (c .before) j e,
+      ← l,
+      ← e₁ .before .is-back-dated .ensures,
+      e₁ .if1 .left,
+      ← e₂ .before .is-unopened .ensures _ l,
+      e₂ .if2 .left,
+      ← e₃ .before .is-at-later .ensures _ l (ended-is j e),
+      e₃ .if3 .left,
+      ← e₄ .before .is-opening-indicated .ensures,
+      e₄ .if4 .left,
+      ← h,
+      ← c .before .is-unheld-reread .ensures,
       c .if5 .taken,
     )
 
@@ -124,38 +126,52 @@ is-full-requires c κs = search needs
 returns-6 : tie.Need-returns-6
 unfolding orderRules
 returns-6 c =
-    λ j e.
+    let e₅ = c .before .before in
+    let e₄ = e₅ .before .before in
+    let e₃ = e₄ .before .before in
+    let e₂ = e₃ .before .before in
+    let e₁ = e₂ .before .before in
+    λ j e l h.
     rw (
-      back-dated-is (c .before .before .before .before .before .before .before .before .before .before .before) j e,
-      c .before .before .before .before .before .before .before .before .before .before .if1 .left,
-      unopened-is (c .before .before .before .before .before .before .before .before .before) j e,
-      c .before .before .before .before .before .before .before .before .if2 .left,
-      at-later-is (c .before .before .before .before .before .before .before) j e,
-      c .before .before .before .before .before .before .if3 .left,
-      ← c .before .before .before .before .before .is-opening-indicated .ensures,
-      c .before .before .before .before .if4 .left,
-      unheld-is (c .before .before .before) j e,
-      c .before .before .if5 .left,
-      full-is (c .before) j e,
+      ← l,
+      ← e₁ .before .is-back-dated .ensures,
+      e₁ .if1 .left,
+      ← e₂ .before .is-unopened .ensures _ l,
+      e₂ .if2 .left,
+      ← e₃ .before .is-at-later .ensures _ l (ended-is j e),
+      e₃ .if3 .left,
+      ← e₄ .before .is-opening-indicated .ensures,
+      e₄ .if4 .left,
+      ← h,
+      ← e₅ .before .is-unheld-reread .ensures,
+      e₅ .if5 .left,
+      ← c .before .is-full .ensures j (head-is j e) (kept-is j e),
       c .if6 .taken,
     )
 
 returns-7 : tie.Need-returns-7
 unfolding orderRules
 returns-7 c =
-    λ j e.
+    let e₅ = c .before .before in
+    let e₄ = e₅ .before .before in
+    let e₃ = e₄ .before .before in
+    let e₂ = e₃ .before .before in
+    let e₁ = e₂ .before .before in
+    λ j e l h.
     rw (
-      back-dated-is (c .before .before .before .before .before .before .before .before .before .before .before) j e,
-      c .before .before .before .before .before .before .before .before .before .before .if1 .left,
-      unopened-is (c .before .before .before .before .before .before .before .before .before) j e,
-      c .before .before .before .before .before .before .before .before .if2 .left,
-      at-later-is (c .before .before .before .before .before .before .before) j e,
-      c .before .before .before .before .before .before .if3 .left,
-      ← c .before .before .before .before .before .is-opening-indicated .ensures,
-      c .before .before .before .before .if4 .left,
-      unheld-is (c .before .before .before) j e,
-      c .before .before .if5 .left,
-      full-is (c .before) j e,
+      ← l,
+      ← e₁ .before .is-back-dated .ensures,
+      e₁ .if1 .left,
+      ← e₂ .before .is-unopened .ensures _ l,
+      e₂ .if2 .left,
+      ← e₃ .before .is-at-later .ensures _ l (ended-is j e),
+      e₃ .if3 .left,
+      ← e₄ .before .is-opening-indicated .ensures,
+      e₄ .if4 .left,
+      ← h,
+      ← e₅ .before .is-unheld-reread .ensures,
+      e₅ .if5 .left,
+      ← c .before .is-full .ensures j (head-is j e) (kept-is j e),
       c .if6 .left,
     )
 
