@@ -17,7 +17,6 @@ use journal::judge::Judged;
 use journal::judge::Summary;
 use journal::judge::judge_area;
 use reads::found::read_on;
-use reads::held::held;
 use reads::recent::recent;
 use register::head::offset_after;
 use rules::detection::detect;
@@ -106,7 +105,7 @@ fn decide_sound(area: &[u8], s: Submission, t: Summary) -> Decision
     }
     let recent = recent(area, t);
     let last = recent.last;
-    let order = order_number(s, t, last, held(area, t));
+    let order = order_number(area, s, t, last);
     if order != Number::ACCEPTED {
         return refused(order);
     }

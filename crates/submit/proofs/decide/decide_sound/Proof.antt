@@ -55,31 +55,20 @@ returns-2 c =
 recent-requires : tie.Need-recent-requires
 recent-requires c κs = search needs
 
-held-requires : tie.Need-held-requires
-held-requires c κs = search needs
+-- and so are the last reads
+module _ (c : tie.After-recent) where
+  abbrev start : tie.Start
+  start = c .before .before .before .before .before .before .before
+
+  recent-is : c .recent .result ≡ recentOf (standing (journalOf (start .args .area .now) .entries))
+  recent-is = c .recent .ensures (start .pre)
 
 order-number-requires : tie.Need-order-number-requires
-order-number-requires c κs = search needs
+order-number-requires c κs = start c .pre
 
--- and so are the last reads and the held one
-module _ (c : tie.After-order-number) where
-  abbrev asked : tie.After-recent
-  asked = c .before .before
-
-  abbrev start : tie.Start
-  start = asked .before .before .before .before .before .before .before
-
-  past-is : asked .recent .result ≡ recentOf (standing (journalOf (start .args .area .now) .entries))
-  past-is = asked .recent .ensures (start .pre)
-
-  order-is : c .order-number .result ≡ firstBroken (orderRules (start .args .s) (journalOf (start .args .area .now)))
-  unfolding recentOf
-  order-is =
-      c .order-number .ensures
-      _
-      (start .pre .summary)
-      (ap (λ (r : Recent). r .last) past-is)
-      (c .before .held .ensures (start .pre))
+order-is : (c : tie.After-order-number) → let s = start (c .before) in c .order-number .result ≡ firstBroken (orderRules (s .args .s) (journalOf (s .args .area .now)))
+unfolding recentOf
+order-is c = c .order-number .ensures (ap (λ (r : Recent). r .last) (recent-is (c .before)))
 
 refused-requires-3 : tie.Need-refused-requires-3
 refused-requires-3 c κs = search needs
@@ -87,7 +76,7 @@ refused-requires-3 c κs = search needs
 returns-3 : tie.Need-returns-3
 returns-3 c =
     let order = c .before .before in
-    let e₂ = asked order .before in
+    let e₂ = order .before .before in
     let e₁ = e₂ .before .before .before in
     rw (
       in-groups,
@@ -106,7 +95,7 @@ judge-requires c κs = search needs
 returns-4 : tie.Need-returns-4
 returns-4 c =
     let order = c .before .before in
-    let e₂ = asked order .before in
+    let e₂ = order .before .before in
     let e₁ = e₂ .before .before .before in
     rw (
       in-groups,
@@ -117,7 +106,7 @@ returns-4 c =
       ← order-is order,
       eq-eqb _ _ (c .before .if3 .left),
     )
-    (c .judge .ensures _ (start order .pre .summary) (past-is order))
+    (c .judge .ensures _ (start (order .before) .pre .summary) (recent-is (order .before)))
 
 pub decide-sound-spec : {M : Type 1} → statement M
 decide-sound-spec =
@@ -131,7 +120,6 @@ decide-sound-spec =
     refused-requires-2
     returns-2
     recent-requires
-    held-requires
     order-number-requires
     refused-requires-3
     returns-3

@@ -1,7 +1,7 @@
 -- The first test that holds decides, in the order of the group.
 use mathlib.Core.Path.{_≡_, ap}
 use Rattle.journal.specs.declared.judge.Summary.{Summary}
-use Rattle.journal.specs.Journal.{Journal, standing, kept}
+use Rattle.journal.specs.Journal.{journalOf, standing, kept}
 use Rattle.journal.specs.Sound.{any, isFinalRead}
 use Rattle.journal.specs.Inner.Judged.{summaryOf}
 use Rattle.journal.specs.Inner.Survey.{countsOf}
@@ -10,19 +10,22 @@ use borrow.Author.Needs.{needs}
 use Rattle.submit.proofs.order.order_number.Statement.{statement}
 use Rattle.submit.proofs.order.order_number.Tie as tie
 
+abbrev start : tie.After-is-back-dated → tie.Start
+start c = c .before .before .before
+
 -- what was counted of the journal
-module _ {t : Summary} (j : Journal) (e : t ≡ summaryOf j) where
-  head-is : t .head ≡ j .head
+module _ (c : tie.Start) where
+  head-is : c .args .t .head ≡ journalOf (c .args .area .now) .head
   unfolding summaryOf
-  head-is = ap (λ (u : Summary). u .head) e
+  head-is = ap (λ (t : Summary). t .head) (c .pre .summary)
 
-  kept-is : t .counts .kept ≡ kept (j .entries)
+  kept-is : c .args .t .counts .kept ≡ kept (journalOf (c .args .area .now) .entries)
   unfolding summaryOf countsOf
-  kept-is = ap (λ (u : Summary). u .counts .kept) e
+  kept-is = ap (λ (t : Summary). t .counts .kept) (c .pre .summary)
 
-  ended-is : t .ended ≡ any isFinalRead (standing (j .entries))
+  ended-is : c .args .t .ended ≡ any isFinalRead (standing (journalOf (c .args .area .now) .entries))
   unfolding summaryOf
-  ended-is = ap (λ (u : Summary). u .ended) e
+  ended-is = ap (λ (t : Summary). t .ended) (c .pre .summary)
 
 is-back-dated-requires : tie.Need-is-back-dated-requires
 is-back-dated-requires c κs = search needs
@@ -30,7 +33,7 @@ is-back-dated-requires c κs = search needs
 returns : tie.Need-returns
 unfolding orderRules
 returns c =
-    λ j e l h.
+    λ l.
     rw (
       ← l,
       ← c .before .is-back-dated .ensures,
@@ -44,7 +47,7 @@ returns-2 : tie.Need-returns-2
 unfolding orderRules
 returns-2 c =
     let e₁ = c .before .before in
-    λ j e l h.
+    λ l.
     rw (
       ← l,
       ← e₁ .before .is-back-dated .ensures,
@@ -61,14 +64,14 @@ unfolding orderRules
 returns-3 c =
     let e₂ = c .before .before in
     let e₁ = e₂ .before .before in
-    λ j e l h.
+    λ l.
     rw (
       ← l,
       ← e₁ .before .is-back-dated .ensures,
       e₁ .if1 .left,
       ← e₂ .before .is-unopened .ensures _ l,
       e₂ .if2 .left,
-      ← c .before .is-at-later .ensures _ l (ended-is j e),
+      ← c .before .is-at-later .ensures _ l (ended-is (start (e₁ .before))),
       c .if3 .taken,
     )
 
@@ -81,21 +84,21 @@ returns-4 c =
     let e₃ = c .before .before in
     let e₂ = e₃ .before .before in
     let e₁ = e₂ .before .before in
-    λ j e l h.
+    λ l.
     rw (
       ← l,
       ← e₁ .before .is-back-dated .ensures,
       e₁ .if1 .left,
       ← e₂ .before .is-unopened .ensures _ l,
       e₂ .if2 .left,
-      ← e₃ .before .is-at-later .ensures _ l (ended-is j e),
+      ← e₃ .before .is-at-later .ensures _ l (ended-is (start (e₁ .before))),
       e₃ .if3 .left,
       ← c .before .is-opening-indicated .ensures,
       c .if4 .taken,
     )
 
 is-unheld-reread-requires : tie.Need-is-unheld-reread-requires
-is-unheld-reread-requires c κs = search needs
+is-unheld-reread-requires c κs = start (c .before .before .before .before .before .before .before) .pre
 
 returns-5 : tie.Need-returns-5
 unfolding orderRules
@@ -104,18 +107,17 @@ returns-5 c =
     let e₃ = e₄ .before .before in
     let e₂ = e₃ .before .before in
     let e₁ = e₂ .before .before in
-    λ j e l h.
+    λ l.
     rw (
       ← l,
       ← e₁ .before .is-back-dated .ensures,
       e₁ .if1 .left,
       ← e₂ .before .is-unopened .ensures _ l,
       e₂ .if2 .left,
-      ← e₃ .before .is-at-later .ensures _ l (ended-is j e),
+      ← e₃ .before .is-at-later .ensures _ l (ended-is (start (e₁ .before))),
       e₃ .if3 .left,
       ← e₄ .before .is-opening-indicated .ensures,
       e₄ .if4 .left,
-      ← h,
       ← c .before .is-unheld-reread .ensures,
       c .if5 .taken,
     )
@@ -131,21 +133,20 @@ returns-6 c =
     let e₃ = e₄ .before .before in
     let e₂ = e₃ .before .before in
     let e₁ = e₂ .before .before in
-    λ j e l h.
+    λ l.
     rw (
       ← l,
       ← e₁ .before .is-back-dated .ensures,
       e₁ .if1 .left,
       ← e₂ .before .is-unopened .ensures _ l,
       e₂ .if2 .left,
-      ← e₃ .before .is-at-later .ensures _ l (ended-is j e),
+      ← e₃ .before .is-at-later .ensures _ l (ended-is (start (e₁ .before))),
       e₃ .if3 .left,
       ← e₄ .before .is-opening-indicated .ensures,
       e₄ .if4 .left,
-      ← h,
       ← e₅ .before .is-unheld-reread .ensures,
       e₅ .if5 .left,
-      ← c .before .is-full .ensures j (head-is j e) (kept-is j e),
+      ← c .before .is-full .ensures _ (head-is (start (e₁ .before))) (kept-is (start (e₁ .before))),
       c .if6 .taken,
     )
 
@@ -157,21 +158,20 @@ returns-7 c =
     let e₃ = e₄ .before .before in
     let e₂ = e₃ .before .before in
     let e₁ = e₂ .before .before in
-    λ j e l h.
+    λ l.
     rw (
       ← l,
       ← e₁ .before .is-back-dated .ensures,
       e₁ .if1 .left,
       ← e₂ .before .is-unopened .ensures _ l,
       e₂ .if2 .left,
-      ← e₃ .before .is-at-later .ensures _ l (ended-is j e),
+      ← e₃ .before .is-at-later .ensures _ l (ended-is (start (e₁ .before))),
       e₃ .if3 .left,
       ← e₄ .before .is-opening-indicated .ensures,
       e₄ .if4 .left,
-      ← h,
       ← e₅ .before .is-unheld-reread .ensures,
       e₅ .if5 .left,
-      ← c .before .is-full .ensures j (head-is j e) (kept-is j e),
+      ← c .before .is-full .ensures _ (head-is (start (e₁ .before))) (kept-is (start (e₁ .before))),
       c .if6 .left,
     )
 
