@@ -15,34 +15,33 @@ use Rattle.rules.specs.Indicator.{indicatedNumber, indicatedFlag}
 use Rattle.rules.specs.Volume.{advanceOver, volumeNumber}
 use Rattle.register.specs.Area.{areaBytes, allZero}
 use Rattle.register.specs.Head.{offsetAfter}
-use Rattle.journal.specs.declared.survey.Surveyed.{Surveyed}
-use Rattle.journal.specs.declared.survey.Surveyed.the-variants.{Zero, Damaged, Sound}
+use Rattle.journal.specs.declared.judge.Judged.{Judged}
+use Rattle.journal.specs.declared.judge.Judged.the-variants.{Zero, Damaged, Sound}
 use Rattle.journal.specs.Journal.{Journal, journalOf, standing, kept}
 use Rattle.journal.specs.Numbers.{areaRules}
 use Rattle.journal.specs.Sound.{isSound}
-use Rattle.journal.specs.Inner.Survey.{surveyed}
+use Rattle.journal.specs.Inner.Judged.{summaryOf}
+use Rattle.journal.specs.Inner.Judged as found
 use Rattle.calls.specs.Calls.{isVolumeQuery, submittedAdvance}
 use Rattle.calls.specs.Checks.{isDenied, isUnclear, indicatedIn, contentRules, sameDayRules, orderRules, indicatorRules, volumeRules, submitRules, submitChecks}
 use Rattle.submit.specs.declared.decide.Decision.{Decision}
-use Rattle.submit.specs.Inner.Decision.{refusedDecision, decided, decidedIn, decisionOf, judgedRules, surveyFor}
+use Rattle.submit.specs.Inner.Decision.{refusedDecision, decided, decidedIn, decisionOf, judgedRules}
 
--- ---- what a survey of the area says of the decision
-abbrev pub Means : Submission → List ℕ → Surveyed → Type 0
+-- ---- what a judgement of the area says of the decision
+abbrev pub Means : Submission → List ℕ → Judged → Type 0
 Means s area Zero = decisionOf s area ≡ refusedDecision noMeter
 Means s area Damaged = decisionOf s area ≡ refusedDecision damaged
-Means s area (Sound v) =
-    (v ≡ surveyFor s (journalOf area))
-    × (decisionOf s area ≡ decidedIn s (journalOf area) (firstBroken (submitRules s (journalOf area))))
+Means s area (Sound t) = decisionOf s area ≡ decidedIn s (journalOf area) (firstBroken (submitRules s (journalOf area)))
 
 module _ (s : Submission) (area : List ℕ) where
-  by-tests : (zero sound : Bool) → allZero area ≡ zero → isSound area ≡ sound → Means s area (cond zero Zero (cond sound (Sound (surveyFor s (journalOf area))) Damaged))
+  by-tests : (zero sound : Bool) → allZero area ≡ zero → isSound area ≡ sound → Means s area (cond zero Zero (cond sound (Sound (summaryOf (journalOf area))) Damaged))
   unfolding decisionOf decidedIn decided submitChecks areaRules
   by-tests true sound z t = rw z
-  by-tests false true z t = (refl, rw (z, t))
+  by-tests false true z t = rw (z, t)
   by-tests false false z t = rw (z, t)
 
-  pub means : length area ≡ areaBytes → Means s area (surveyed (s .day) (s .value) area)
-  unfolding surveyed
+  pub means : length area ≡ areaBytes → Means s area (found.judged area)
+  unfolding found.judged
   means h = rw h (by-tests (allZero area) (isSound area) refl refl)
 
 -- ---- a group of rules whose numbers write nothing

@@ -1,25 +1,30 @@
 // The decision on a submission: the number of the first rule broken, and what an accepted or a held read is stored with.
 ghost use mathlib.Core.Path.{_≡_};
 ghost use lib.ListN.{length};
+ghost use Rattle.terms.specs.Entry.{recentOf};
 ghost use Rattle.terms.specs.Rule.{firstBroken};
 ghost use Rattle.rules.specs.Volume.{advanceOver, volumeNumber};
 ghost use Rattle.register.specs.Area.{areaBytes};
 ghost use Rattle.register.specs.Head.{offsetAfter};
-ghost use Rattle.journal.specs.Journal.{Journal};
+ghost use Rattle.journal.specs.Journal.{Journal, journalOf, standing};
+ghost use Rattle.journal.specs.Inner.Judged.{summaryOf, Counted};
 ghost use Rattle.calls.specs.Checks.{submitRules};
-ghost use Rattle.submit.specs.Inner.Decision.{refusedDecision, decided, decidedIn, decisionOf, judgedRules, surveyFor};
+ghost use Rattle.submit.specs.Inner.Decision.{refusedDecision, decided, decidedIn, decisionOf, judgedRules};
 use crate::content::content_number;
 use crate::order::order_number;
 use crate::same_day::same_day_number;
-use journal::survey::Survey;
-use journal::survey::Surveyed;
-use journal::survey::survey_area;
+use journal::judge::Judged;
+use journal::judge::Summary;
+use journal::judge::judge_area;
+use reads::found::read_on;
+use reads::recent::recent;
 use register::head::offset_after;
 use rules::detection::detect;
 use rules::indicator::Indicated;
 use rules::indicator::indicate;
 use rules::volume::advance_over;
 use rules::volume::volume;
+use terms::entry::Recent;
 use terms::number::Number;
 use terms::submission::Submission;
 
@@ -46,13 +51,12 @@ fn refused(number: u8) -> Decision
 }
 
 // 19 to 21 for a read that is taken with this flag, or 0.
-fn weigh(s: Submission, v: Survey, flag: u8) -> Decision
-    ensures { λ r. ⌜ r ≡ decided (volumeNumber (v .head .dials) (v .head .capacity) s flag (v .recent)) flag (advanceOver (v .head .dials) (s .value) flag (v .recent .last)) (offsetAfter (v .head) (v .counts .kept)) ⌝ }
+fn weigh(s: Submission, t: Summary, recent: Recent, flag: u8) -> Decision
+    ensures { λ r. ⌜ r ≡ decided (volumeNumber (t .head .dials) (t .head .capacity) s flag recent) flag (advanceOver (t .head .dials) (s .value) flag (recent .last)) (offsetAfter (t .head) (t .counts .kept)) ⌝ }
 {
-    let head = v.head;
-    let recent = v.recent;
+    let head = t.head;
     let last = recent.last;
-    let counts = v.counts;
+    let counts = t.counts;
     let at = offset_after(head, counts.kept);
     let number = volume(head.dials, head.capacity, s, flag, recent);
     if number == Number::ACCEPTED {
@@ -75,35 +79,37 @@ fn weigh(s: Submission, v: Survey, flag: u8) -> Decision
 }
 
 // 17 and 18, or the flag with which the volume is checked.
-fn judge(s: Submission, v: Survey) -> Decision
-    ensures { λ r. ⌜ ((j : Journal) → v ≡ surveyFor s j → r ≡ decidedIn s j (firstBroken (judgedRules s j))) ⌝ }
+fn judge(s: Submission, t: Summary, recent: Recent) -> Decision
+    ensures { λ r. ⌜ ((j : Journal) → t ≡ summaryOf j → recent ≡ recentOf (standing (j .entries)) → r ≡ decidedIn s j (firstBroken (judgedRules s j))) ⌝ }
 {
-    let head = v.head;
-    let recent = v.recent;
+    let head = t.head;
     match indicate(detect(head.dials, s, recent), s.indicator) {
         Indicated::Denied => refused(Number::EE),
         Indicated::Unclear => refused(Number::EF),
-        Indicated::Flag(flag) => weigh(s, v, flag),
+        Indicated::Flag(flag) => weigh(s, t, recent, flag),
     }
 }
 
-// Every rule that a sound journal is asked.
-fn decide_sound(s: Submission, v: Survey) -> Decision
-    ensures { λ r. ⌜ ((j : Journal) → v ≡ surveyFor s j → r ≡ decidedIn s j (firstBroken (submitRules s j))) ⌝ }
+// Every rule that a sound journal is asked, and of its entries no more than a rule needs.
+fn decide_sound(area: &[u8], s: Submission, t: Summary) -> Decision
+    requires { ⌜ Counted (now area) t ⌝ }
+    ensures { λ r. ⌜ r ≡ decidedIn s (journalOf (now (area .entry))) (firstBroken (submitRules s (journalOf (now (area .entry))))) ⌝ }
 {
-    let content = content_number(s, v);
+    let content = content_number(area, s, t);
     if content != Number::ACCEPTED {
         return refused(content);
     }
-    let same_day = same_day_number(s, v);
+    let same_day = same_day_number(s, read_on(area, t, s.day));
     if same_day != Number::ACCEPTED {
         return refused(same_day);
     }
-    let order = order_number(s, v);
+    let recent = recent(area, t);
+    let last = recent.last;
+    let order = order_number(area, s, t, last);
     if order != Number::ACCEPTED {
         return refused(order);
     }
-    judge(s, v)
+    judge(s, t, recent)
 }
 
 // What an area makes of a submission. Nothing is written.
@@ -111,9 +117,9 @@ pub(crate) fn decide(area: &[u8], s: Submission) -> Decision
     requires { ⌜ length (now area) ≡ areaBytes ⌝ }
     ensures { λ r. ⌜ r ≡ decisionOf s (now (area .entry)) ⌝ }
 {
-    match survey_area(area, s.day, s.value) {
-        Surveyed::Zero => refused(Number::NO_METER),
-        Surveyed::Damaged => refused(Number::DAMAGED),
-        Surveyed::Sound(v) => decide_sound(s, v),
+    match judge_area(area) {
+        Judged::Zero => refused(Number::NO_METER),
+        Judged::Damaged => refused(Number::DAMAGED),
+        Judged::Sound(t) => decide_sound(area, s, t),
     }
 }

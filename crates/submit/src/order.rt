@@ -4,12 +4,13 @@ ghost use mathlib.Core.List.{List};
 ghost use Rattle.terms.specs.declared.entry.Entry.{Entry};
 ghost use Rattle.terms.specs.Entry.{slotAt};
 ghost use Rattle.terms.specs.Rule.{firstBroken};
-ghost use Rattle.journal.specs.Journal.{Journal, kept};
+ghost use Rattle.journal.specs.Journal.{Journal, journalOf, standing, kept, heldOf};
 ghost use Rattle.journal.specs.Sound.{any, isFinalRead};
+ghost use Rattle.journal.specs.Inner.Judged.{Counted};
 ghost use Rattle.calls.specs.Checks.{isBackDated, isUnopened, isATLater, isOpeningIndicated, isHeldEqual, isUnheldReread, isFull, orderRules};
-ghost use Rattle.submit.specs.Inner.Decision.{surveyFor};
+use journal::judge::Summary;
 use journal::slot::is_there;
-use journal::survey::Survey;
+use reads::held::held;
 use register::head::Head;
 use register::head::most_entries;
 use terms::entry::Slot;
@@ -63,11 +64,15 @@ fn is_held_equal(s: Submission, held: Slot) -> bool
     }
 }
 
-// 15: a re-read, and no held read is equal.
-fn is_unheld_reread(s: Submission, held: Slot) -> bool
-    ensures { λ r. ⌜ r ≡ isUnheldReread s held ⌝ }
+// 15: a re-read, and no held read is equal. Only a re-read asks for the held one.
+fn is_unheld_reread(area: &[u8], s: Submission, t: Summary) -> bool
+    requires { ⌜ Counted (now area) t ⌝ }
+    ensures { λ r. ⌜ r ≡ isUnheldReread s (heldOf (journalOf (now (area .entry)) .entries)) ⌝ }
 {
-    (s.reread == 1) & !is_held_equal(s, held)
+    if s.reread != 1 {
+        return false;
+    }
+    !is_held_equal(s, held(area, t))
 }
 
 // 16: as many are kept as may follow the head.
@@ -78,30 +83,27 @@ fn is_full(head: Head, count: u8) -> bool
 }
 
 // The number of the first rule broken, or 0.
-pub(crate) fn order_number(s: Submission, v: Survey) -> u8
-    ensures { λ r. ⌜ ((j : Journal) → v ≡ surveyFor s j → r ≡ firstBroken (orderRules s j)) ⌝ }
+pub(crate) fn order_number(area: &[u8], s: Submission, t: Summary, last: Slot) -> u8
+    requires { ⌜ Counted (now area) t ⌝ }
+    ensures { λ r. ⌜ (last ≡ slotAt (standing (journalOf (now (area .entry)) .entries)) 0 → r ≡ firstBroken (orderRules s (journalOf (now (area .entry))))) ⌝ }
 {
-    let head = v.head;
-    let recent = v.recent;
-    let last = recent.last;
-    let held = v.held;
-    let counts = v.counts;
+    let counts = t.counts;
     if is_back_dated(s, last) {
         return Number::BACK_DATED;
     }
     if is_unopened(s, last) {
         return Number::DF;
     }
-    if is_at_later(s, last, v.ended) {
+    if is_at_later(s, last, t.ended) {
         return Number::AT;
     }
     if is_opening_indicated(s) {
         return Number::INDICATOR_ON_OPENING;
     }
-    if is_unheld_reread(s, held) {
+    if is_unheld_reread(area, s, t) {
         return Number::NO_ORIGINAL;
     }
-    if is_full(head, counts.kept) {
+    if is_full(t.head, counts.kept) {
         return Number::FULL;
     }
     Number::ACCEPTED

@@ -1,11 +1,9 @@
 // The read that stands on the submitted day: 1, 9, 10, 11.
 ghost use mathlib.Core.Path.{_≡_};
 ghost use Rattle.terms.specs.Rule.{firstBroken};
-ghost use Rattle.journal.specs.Journal.{Journal};
+ghost use Rattle.journal.specs.Journal.{Journal, standing, onDay};
 ghost use Rattle.calls.specs.Checks.{isRepeat, isATOnDay, isOtherIndicator, sameDayRules};
-ghost use Rattle.submit.specs.Inner.Decision.{surveyFor};
 use journal::slot::is_there;
-use journal::survey::Survey;
 use terms::entry::Slot;
 use terms::letter::Letter;
 use terms::number::Number;
@@ -40,11 +38,9 @@ fn is_other_indicator(s: Submission, sameday: Slot) -> bool
 }
 
 // The number of the first rule broken, or 0 where no read of that day stands: 11 is any that is left.
-pub(crate) fn same_day_number(s: Submission, v: Survey) -> u8
-    ensures { λ r. ⌜ ((j : Journal) → v ≡ surveyFor s j → r ≡ firstBroken (sameDayRules s j)) ⌝ }
+pub(crate) fn same_day_number(s: Submission, sameday: Slot) -> u8
+    ensures { λ r. ⌜ ((j : Journal) → sameday ≡ onDay (s .day) (standing (j .entries)) → r ≡ firstBroken (sameDayRules s j)) ⌝ }
 {
-    let found = v.found;
-    let sameday = found.sameday;
     if is_repeat(s, sameday) {
         return Number::REPEAT;
     }

@@ -12,9 +12,7 @@ use Rattle.terms.specs.Number.{accepted}
 use Rattle.terms.specs.Rule.{Rule, firstBroken}
 use Rattle.register.specs.Entries.{putEntry}
 use Rattle.register.specs.Head.{offsetAfter}
-use Rattle.journal.specs.declared.survey.Survey.{Survey}
 use Rattle.journal.specs.Journal.{Journal, journalOf, kept}
-use Rattle.journal.specs.Inner.Survey.{surveyOf}
 use Rattle.calls.specs.Checks.{indicatorRules, volumeRules, submitChecks, takenFlag}
 use Rattle.calls.specs.Calls.{entryFor, isVolumeQuery, submittedAdvance}
 use Rattle.submit.specs.declared.decide.Decision.{Decision}
@@ -42,10 +40,6 @@ decisionOf s area = decidedIn s (journalOf area) (firstBroken (submitChecks s ar
 -- 17 to 21: what is asked once the read is in order
 unfoldable pub judgedRules : Submission → Journal → List Rule
 judgedRules s j = indicatorRules s j ++ volumeRules s j
-
--- what one pass over a journal shows of a submission
-abbrev pub surveyFor : Submission → Journal → Survey
-surveyFor s j = surveyOf (s .day) (s .value) j
 
 -- ---- what follows from a decision
 -- "accepted, the read is written as kind 2 .. With 19 or 20 it is written there as kind 4 with its flag"

@@ -1,60 +1,90 @@
--- The first group that gives a number decides.
+-- The first group that gives a number decides, each asked of the journal that was counted.
+use mathlib.Core.Path.{_≡_, ap}
 use borrow.Author.Tests.{ne-eqb, eq-eqb}
+use Rattle.terms.specs.declared.entry.Recent.{Recent}
+use Rattle.terms.specs.Entry.{recentOf}
+use Rattle.terms.specs.Rule.{firstBroken}
+use Rattle.journal.specs.Journal.{journalOf, standing}
+use Rattle.calls.specs.Checks.{sameDayRules, orderRules}
 use Rattle.submit.proofs.Stages.{in-groups}
 use borrow.Author.Needs.{needs}
 use Rattle.submit.proofs.decide.decide_sound.Statement.{statement}
 use Rattle.submit.proofs.decide.decide_sound.Tie as tie
 
 content-number-requires : tie.Need-content-number-requires
-content-number-requires c κs = search needs
+content-number-requires c κs = c .before .pre
 
 refused-requires : tie.Need-refused-requires
 refused-requires c κs = search needs
 
 returns : tie.Need-returns
 returns c =
-    λ j e.
     rw (
       in-groups,
-      ← c .before .before .content-number .ensures j e,
+      ← c .before .before .content-number .ensures,
       ne-eqb _ _ (c .before .if1 .taken),
     )
     (c .refused .ensures)
 
+read-on-requires : tie.Need-read-on-requires
+read-on-requires c κs = search needs
+
 same-day-number-requires : tie.Need-same-day-number-requires
 same-day-number-requires c κs = search needs
+
+-- the read of that day is the journal's
+day-is : (c : tie.After-same-day-number) → let start = c .before .before .before .before .before in c .same-day-number .result ≡ firstBroken (sameDayRules (start .args .s) (journalOf (start .args .area .now)))
+day-is c = c .same-day-number .ensures _ (c .before .read-on .ensures (c .before .before .before .before .before .pre))
 
 refused-requires-2 : tie.Need-refused-requires-2
 refused-requires-2 c κs = search needs
 
 returns-2 : tie.Need-returns-2
 returns-2 c =
-    λ j e.
+    let day = c .before .before in
+    let e₁ = day .before .before in
     rw (
       in-groups,
-      ← c .before .before .before .before .content-number .ensures j e,
-      eq-eqb _ _ (c .before .before .before .if1 .left),
-      ← c .before .before .same-day-number .ensures j e,
+      ← e₁ .before .content-number .ensures,
+      eq-eqb _ _ (e₁ .if1 .left),
+      ← day-is day,
       ne-eqb _ _ (c .before .if2 .taken),
     )
     (c .refused2 .ensures)
 
+recent-requires : tie.Need-recent-requires
+recent-requires c κs = search needs
+
+-- and so are the last reads
+module _ (c : tie.After-recent) where
+  abbrev start : tie.Start
+  start = c .before .before .before .before .before .before .before
+
+  recent-is : c .recent .result ≡ recentOf (standing (journalOf (start .args .area .now) .entries))
+  recent-is = c .recent .ensures (start .pre)
+
 order-number-requires : tie.Need-order-number-requires
-order-number-requires c κs = search needs
+order-number-requires c κs = start c .pre
+
+order-is : (c : tie.After-order-number) → let s = start (c .before) in c .order-number .result ≡ firstBroken (orderRules (s .args .s) (journalOf (s .args .area .now)))
+unfolding recentOf
+order-is c = c .order-number .ensures (ap (λ (r : Recent). r .last) (recent-is (c .before)))
 
 refused-requires-3 : tie.Need-refused-requires-3
 refused-requires-3 c κs = search needs
 
 returns-3 : tie.Need-returns-3
 returns-3 c =
-    λ j e.
+    let order = c .before .before in
+    let e₂ = order .before .before in
+    let e₁ = e₂ .before .before .before in
     rw (
       in-groups,
-      ← c .before .before .before .before .before .before .content-number .ensures j e,
-      eq-eqb _ _ (c .before .before .before .before .before .if1 .left),
-      ← c .before .before .before .before .same-day-number .ensures j e,
-      eq-eqb _ _ (c .before .before .before .if2 .left),
-      ← c .before .before .order-number .ensures j e,
+      ← e₁ .before .content-number .ensures,
+      eq-eqb _ _ (e₁ .if1 .left),
+      ← day-is (e₂ .before),
+      eq-eqb _ _ (e₂ .if2 .left),
+      ← order-is order,
       ne-eqb _ _ (c .before .if3 .taken),
     )
     (c .refused3 .ensures)
@@ -64,17 +94,19 @@ judge-requires c κs = search needs
 
 returns-4 : tie.Need-returns-4
 returns-4 c =
-    λ j e.
+    let order = c .before .before in
+    let e₂ = order .before .before in
+    let e₁ = e₂ .before .before .before in
     rw (
       in-groups,
-      ← c .before .before .before .before .before .before .content-number .ensures j e,
-      eq-eqb _ _ (c .before .before .before .before .before .if1 .left),
-      ← c .before .before .before .before .same-day-number .ensures j e,
-      eq-eqb _ _ (c .before .before .before .if2 .left),
-      ← c .before .before .order-number .ensures j e,
+      ← e₁ .before .content-number .ensures,
+      eq-eqb _ _ (e₁ .if1 .left),
+      ← day-is (e₂ .before),
+      eq-eqb _ _ (e₂ .if2 .left),
+      ← order-is order,
       eq-eqb _ _ (c .before .if3 .left),
     )
-    (c .judge .ensures j e)
+    (c .judge .ensures _ (start (order .before) .pre .summary) (recent-is (order .before)))
 
 pub decide-sound-spec : {M : Type 1} → statement M
 decide-sound-spec =
@@ -83,9 +115,11 @@ decide-sound-spec =
     content-number-requires
     refused-requires
     returns
+    read-on-requires
     same-day-number-requires
     refused-requires-2
     returns-2
+    recent-requires
     order-number-requires
     refused-requires-3
     returns-3

@@ -1,42 +1,31 @@
 -- The first test that holds decides, in the order of the group.
-use mathlib.Core.Path.{_≡_, refl, sym, ap, _∙_}
-use mathlib.Core.Bool.{Bool}
-use Rattle.terms.specs.Entry.{recentOf, slotAt}
-use Rattle.journal.specs.declared.survey.Survey.{Survey}
-use Rattle.journal.specs.Journal.{Journal, standing, heldOf}
-use Rattle.journal.specs.Inner.Survey.{countsOf, surveyOf}
-use Rattle.calls.specs.Checks.{isBackDated, isUnopened, isATLater, isUnheldReread, isFull, orderRules}
-use Rattle.submit.specs.Inner.Decision.{surveyFor}
+use mathlib.Core.Path.{_≡_, ap}
+use Rattle.journal.specs.declared.judge.Summary.{Summary}
+use Rattle.journal.specs.Journal.{journalOf, standing, kept}
+use Rattle.journal.specs.Sound.{any, isFinalRead}
+use Rattle.journal.specs.Inner.Judged.{summaryOf}
+use Rattle.journal.specs.Inner.Survey.{countsOf}
+use Rattle.calls.specs.Checks.{orderRules}
 use borrow.Author.Needs.{needs}
 use Rattle.submit.proofs.order.order_number.Statement.{statement}
 use Rattle.submit.proofs.order.order_number.Tie as tie
 
--- what each test finds of the survey is what it finds of the journal
-abbrev Of : tie.Start → Journal → Type 0
-Of start j = start .args .v ≡ surveyFor (start .args .s) j
+abbrev start : tie.After-is-back-dated → tie.Start
+start c = c .before .before .before
 
-abbrev surveyed : tie.After-is-back-dated → tie.Start
-surveyed c = c .before .before .before .before
+-- what was counted of the journal
+module _ (c : tie.Start) where
+  head-is : c .args .t .head ≡ journalOf (c .args .area .now) .head
+  unfolding summaryOf
+  head-is = ap (λ (t : Summary). t .head) (c .pre .summary)
 
-back-dated-is : (c : tie.After-is-back-dated) (j : Journal) → Of (surveyed c) j → isBackDated (surveyed c .args .s) (slotAt (standing (j .entries)) 0) ≡ c .is-back-dated .result
-unfolding surveyOf recentOf
-back-dated-is c j e = sym (rw e at (c .is-back-dated .ensures))
+  kept-is : c .args .t .counts .kept ≡ kept (journalOf (c .args .area .now) .entries)
+  unfolding summaryOf countsOf
+  kept-is = ap (λ (t : Summary). t .counts .kept) (c .pre .summary)
 
-unopened-is : (c : tie.After-is-unopened) (j : Journal) → let d = c .before .before in Of (surveyed d) j → isUnopened (surveyed d .args .s) (standing (j .entries)) ≡ c .is-unopened .result
-unfolding surveyOf recentOf
-unopened-is c j e = sym (c .is-unopened .ensures _ (ap (λ (v : Survey). v .recent .last) e))
-
-at-later-is : (c : tie.After-is-at-later) (j : Journal) → let d = c .before .before .before .before in Of (surveyed d) j → isATLater (surveyed d .args .s) (standing (j .entries)) ≡ c .is-at-later .result
-unfolding surveyOf recentOf
-at-later-is c j e = sym (c .is-at-later .ensures _ (ap (λ (v : Survey). v .recent .last) e) (ap (λ (v : Survey). v .ended) e))
-
-unheld-is : (c : tie.After-is-unheld-reread) (j : Journal) → let d = c .before .before .before .before .before .before .before .before in Of (surveyed d) j → isUnheldReread (surveyed d .args .s) (heldOf (j .entries)) ≡ c .is-unheld-reread .result
-unfolding surveyOf
-unheld-is c j e = sym (rw e at (c .is-unheld-reread .ensures))
-
-full-is : (c : tie.After-is-full) (j : Journal) → let d = c .before .before .before .before .before .before .before .before .before .before in Of (surveyed d) j → isFull j ≡ c .is-full .result
-unfolding surveyOf countsOf
-full-is c j e = sym (c .is-full .ensures j (ap (λ (v : Survey). v .head) e) (ap (λ (v : Survey). v .counts .kept) e))
+  ended-is : c .args .t .ended ≡ any isFinalRead (standing (journalOf (c .args .area .now) .entries))
+  unfolding summaryOf
+  ended-is = ap (λ (t : Summary). t .ended) (c .pre .summary)
 
 is-back-dated-requires : tie.Need-is-back-dated-requires
 is-back-dated-requires c κs = search needs
@@ -44,9 +33,10 @@ is-back-dated-requires c κs = search needs
 returns : tie.Need-returns
 unfolding orderRules
 returns c =
-    λ j e.
+    λ l.
     rw (
-      back-dated-is (c .before) j e,
+      ← l,
+      ← c .before .is-back-dated .ensures,
       c .if1 .taken,
     )
 
@@ -56,11 +46,13 @@ is-unopened-requires c κs = search needs
 returns-2 : tie.Need-returns-2
 unfolding orderRules
 returns-2 c =
-    λ j e.
+    let e₁ = c .before .before in
+    λ l.
     rw (
-      back-dated-is (c .before .before .before) j e,
-      c .before .before .if1 .left,
-      unopened-is (c .before) j e,
+      ← l,
+      ← e₁ .before .is-back-dated .ensures,
+      e₁ .if1 .left,
+      ← c .before .is-unopened .ensures _ l,
       c .if2 .taken,
     )
 
@@ -70,13 +62,16 @@ is-at-later-requires c κs = search needs
 returns-3 : tie.Need-returns-3
 unfolding orderRules
 returns-3 c =
-    λ j e.
+    let e₂ = c .before .before in
+    let e₁ = e₂ .before .before in
+    λ l.
     rw (
-      back-dated-is (c .before .before .before .before .before) j e,
-      c .before .before .before .before .if1 .left,
-      unopened-is (c .before .before .before) j e,
-      c .before .before .if2 .left,
-      at-later-is (c .before) j e,
+      ← l,
+      ← e₁ .before .is-back-dated .ensures,
+      e₁ .if1 .left,
+      ← e₂ .before .is-unopened .ensures _ l,
+      e₂ .if2 .left,
+      ← c .before .is-at-later .ensures _ l (ended-is (start (e₁ .before))),
       c .if3 .taken,
     )
 
@@ -86,35 +81,44 @@ is-opening-indicated-requires c κs = search needs
 returns-4 : tie.Need-returns-4
 unfolding orderRules
 returns-4 c =
-    λ j e.
+    let e₃ = c .before .before in
+    let e₂ = e₃ .before .before in
+    let e₁ = e₂ .before .before in
+    λ l.
     rw (
-      back-dated-is (c .before .before .before .before .before .before .before) j e,
-      c .before .before .before .before .before .before .if1 .left,
-      unopened-is (c .before .before .before .before .before) j e,
-      c .before .before .before .before .if2 .left,
-      at-later-is (c .before .before .before) j e,
-      c .before .before .if3 .left,
+      ← l,
+      ← e₁ .before .is-back-dated .ensures,
+      e₁ .if1 .left,
+      ← e₂ .before .is-unopened .ensures _ l,
+      e₂ .if2 .left,
+      ← e₃ .before .is-at-later .ensures _ l (ended-is (start (e₁ .before))),
+      e₃ .if3 .left,
       ← c .before .is-opening-indicated .ensures,
       c .if4 .taken,
     )
 
 is-unheld-reread-requires : tie.Need-is-unheld-reread-requires
-is-unheld-reread-requires c κs = search needs
+is-unheld-reread-requires c κs = start (c .before .before .before .before .before .before .before) .pre
 
 returns-5 : tie.Need-returns-5
 unfolding orderRules
 returns-5 c =
-    λ j e.
+    let e₄ = c .before .before in
+    let e₃ = e₄ .before .before in
+    let e₂ = e₃ .before .before in
+    let e₁ = e₂ .before .before in
+    λ l.
     rw (
-      back-dated-is (c .before .before .before .before .before .before .before .before .before) j e,
-      c .before .before .before .before .before .before .before .before .if1 .left,
-      unopened-is (c .before .before .before .before .before .before .before) j e,
-      c .before .before .before .before .before .before .if2 .left,
-      at-later-is (c .before .before .before .before .before) j e,
-      c .before .before .before .before .if3 .left,
-      ← c .before .before .before .is-opening-indicated .ensures,
-      c .before .before .if4 .left,
-      unheld-is (c .before) j e,
+      ← l,
+      ← e₁ .before .is-back-dated .ensures,
+      e₁ .if1 .left,
+      ← e₂ .before .is-unopened .ensures _ l,
+      e₂ .if2 .left,
+      ← e₃ .before .is-at-later .ensures _ l (ended-is (start (e₁ .before))),
+      e₃ .if3 .left,
+      ← e₄ .before .is-opening-indicated .ensures,
+      e₄ .if4 .left,
+      ← c .before .is-unheld-reread .ensures,
       c .if5 .taken,
     )
 
@@ -124,38 +128,50 @@ is-full-requires c κs = search needs
 returns-6 : tie.Need-returns-6
 unfolding orderRules
 returns-6 c =
-    λ j e.
+    let e₅ = c .before .before in
+    let e₄ = e₅ .before .before in
+    let e₃ = e₄ .before .before in
+    let e₂ = e₃ .before .before in
+    let e₁ = e₂ .before .before in
+    λ l.
     rw (
-      back-dated-is (c .before .before .before .before .before .before .before .before .before .before .before) j e,
-      c .before .before .before .before .before .before .before .before .before .before .if1 .left,
-      unopened-is (c .before .before .before .before .before .before .before .before .before) j e,
-      c .before .before .before .before .before .before .before .before .if2 .left,
-      at-later-is (c .before .before .before .before .before .before .before) j e,
-      c .before .before .before .before .before .before .if3 .left,
-      ← c .before .before .before .before .before .is-opening-indicated .ensures,
-      c .before .before .before .before .if4 .left,
-      unheld-is (c .before .before .before) j e,
-      c .before .before .if5 .left,
-      full-is (c .before) j e,
+      ← l,
+      ← e₁ .before .is-back-dated .ensures,
+      e₁ .if1 .left,
+      ← e₂ .before .is-unopened .ensures _ l,
+      e₂ .if2 .left,
+      ← e₃ .before .is-at-later .ensures _ l (ended-is (start (e₁ .before))),
+      e₃ .if3 .left,
+      ← e₄ .before .is-opening-indicated .ensures,
+      e₄ .if4 .left,
+      ← e₅ .before .is-unheld-reread .ensures,
+      e₅ .if5 .left,
+      ← c .before .is-full .ensures _ (head-is (start (e₁ .before))) (kept-is (start (e₁ .before))),
       c .if6 .taken,
     )
 
 returns-7 : tie.Need-returns-7
 unfolding orderRules
 returns-7 c =
-    λ j e.
+    let e₅ = c .before .before in
+    let e₄ = e₅ .before .before in
+    let e₃ = e₄ .before .before in
+    let e₂ = e₃ .before .before in
+    let e₁ = e₂ .before .before in
+    λ l.
     rw (
-      back-dated-is (c .before .before .before .before .before .before .before .before .before .before .before) j e,
-      c .before .before .before .before .before .before .before .before .before .before .if1 .left,
-      unopened-is (c .before .before .before .before .before .before .before .before .before) j e,
-      c .before .before .before .before .before .before .before .before .if2 .left,
-      at-later-is (c .before .before .before .before .before .before .before) j e,
-      c .before .before .before .before .before .before .if3 .left,
-      ← c .before .before .before .before .before .is-opening-indicated .ensures,
-      c .before .before .before .before .if4 .left,
-      unheld-is (c .before .before .before) j e,
-      c .before .before .if5 .left,
-      full-is (c .before) j e,
+      ← l,
+      ← e₁ .before .is-back-dated .ensures,
+      e₁ .if1 .left,
+      ← e₂ .before .is-unopened .ensures _ l,
+      e₂ .if2 .left,
+      ← e₃ .before .is-at-later .ensures _ l (ended-is (start (e₁ .before))),
+      e₃ .if3 .left,
+      ← e₄ .before .is-opening-indicated .ensures,
+      e₄ .if4 .left,
+      ← e₅ .before .is-unheld-reread .ensures,
+      e₅ .if5 .left,
+      ← c .before .is-full .ensures _ (head-is (start (e₁ .before))) (kept-is (start (e₁ .before))),
       c .if6 .left,
     )
 

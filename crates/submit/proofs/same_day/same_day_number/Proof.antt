@@ -1,19 +1,8 @@
--- The first test that holds decides, in the order of the group; each is about the read of that day in the survey.
-use mathlib.Core.Path.{_≡_, sym, ap, _∙_}
-use mathlib.Core.Bool.{false}
-use Rattle.journal.specs.declared.survey.Survey.{Survey}
-use Rattle.journal.specs.Journal.{Journal}
-use Rattle.journal.specs.Inner.Survey.{foundOf, surveyOf}
-use Rattle.calls.specs.Checks.{isRepeat, isATOnDay, isOtherIndicator, sameDay, sameDayRules}
-use Rattle.submit.specs.Inner.Decision.{surveyFor}
+-- The first test that holds decides, in the order of the group; each is about the read of that day.
+use Rattle.calls.specs.Checks.{sameDayRules}
 use borrow.Author.Needs.{needs}
 use Rattle.submit.proofs.same_day.same_day_number.Statement.{statement}
 use Rattle.submit.proofs.same_day.same_day_number.Tie as tie
-
--- the read of that day
-day-is : (start : tie.Start) (j : Journal) → start .args .v ≡ surveyFor (start .args .s) j → sameDay (start .args .s) j ≡ start .args .v .found .sameday
-unfolding surveyOf foundOf
-day-is start j e = sym (ap (λ (v : Survey). v .found .sameday) e)
 
 is-repeat-requires : tie.Need-is-repeat-requires
 is-repeat-requires c κs = search needs
@@ -23,7 +12,7 @@ unfolding sameDayRules
 returns c =
     λ j e.
     rw (
-      day-is (c .before .before .before) j e,
+      ← e,
       ← c .before .is-repeat .ensures,
       c .if1 .taken,
     )
@@ -34,11 +23,12 @@ is-at-on-day-requires c κs = search needs
 returns-2 : tie.Need-returns-2
 unfolding sameDayRules
 returns-2 c =
+    let e₁ = c .before .before in
     λ j e.
     rw (
-      day-is (c .before .before .before .before .before) j e,
-      ← c .before .before .before .is-repeat .ensures,
-      c .before .before .if1 .left,
+      ← e,
+      ← e₁ .before .is-repeat .ensures,
+      e₁ .if1 .left,
       ← c .before .is-at-on-day .ensures,
       c .if2 .taken,
     )
@@ -49,13 +39,15 @@ is-other-indicator-requires c κs = search needs
 returns-3 : tie.Need-returns-3
 unfolding sameDayRules
 returns-3 c =
+    let e₂ = c .before .before in
+    let e₁ = e₂ .before .before in
     λ j e.
     rw (
-      day-is (c .before .before .before .before .before .before .before) j e,
-      ← c .before .before .before .before .before .is-repeat .ensures,
-      c .before .before .before .before .if1 .left,
-      ← c .before .before .before .is-at-on-day .ensures,
-      c .before .before .if2 .left,
+      ← e,
+      ← e₁ .before .is-repeat .ensures,
+      e₁ .if1 .left,
+      ← e₂ .before .is-at-on-day .ensures,
+      e₂ .if2 .left,
       ← c .before .is-other-indicator .ensures,
       c .if3 .taken,
     )
@@ -66,15 +58,18 @@ is-there-requires c κs = search needs
 returns-4 : tie.Need-returns-4
 unfolding sameDayRules
 returns-4 c =
+    let e₃ = c .before .before in
+    let e₂ = e₃ .before .before in
+    let e₁ = e₂ .before .before in
     λ j e.
     rw (
-      day-is (c .before .before .before .before .before .before .before .before .before) j e,
-      ← c .before .before .before .before .before .before .before .is-repeat .ensures,
-      c .before .before .before .before .before .before .if1 .left,
-      ← c .before .before .before .before .before .is-at-on-day .ensures,
-      c .before .before .before .before .if2 .left,
-      ← c .before .before .before .is-other-indicator .ensures,
-      c .before .before .if3 .left,
+      ← e,
+      ← e₁ .before .is-repeat .ensures,
+      e₁ .if1 .left,
+      ← e₂ .before .is-at-on-day .ensures,
+      e₂ .if2 .left,
+      ← e₃ .before .is-other-indicator .ensures,
+      e₃ .if3 .left,
       ← c .before .is-there .ensures,
       c .if4 .taken,
     )
@@ -82,15 +77,18 @@ returns-4 c =
 returns-5 : tie.Need-returns-5
 unfolding sameDayRules
 returns-5 c =
+    let e₃ = c .before .before in
+    let e₂ = e₃ .before .before in
+    let e₁ = e₂ .before .before in
     λ j e.
     rw (
-      day-is (c .before .before .before .before .before .before .before .before .before) j e,
-      ← c .before .before .before .before .before .before .before .is-repeat .ensures,
-      c .before .before .before .before .before .before .if1 .left,
-      ← c .before .before .before .before .before .is-at-on-day .ensures,
-      c .before .before .before .before .if2 .left,
-      ← c .before .before .before .is-other-indicator .ensures,
-      c .before .before .if3 .left,
+      ← e,
+      ← e₁ .before .is-repeat .ensures,
+      e₁ .if1 .left,
+      ← e₂ .before .is-at-on-day .ensures,
+      e₂ .if2 .left,
+      ← e₃ .before .is-other-indicator .ensures,
+      e₃ .if3 .left,
       ← c .before .is-there .ensures,
       c .if4 .left,
     )
