@@ -1,24 +1,24 @@
--- What the survey of an area of 512 bytes says of the first checks of a call.
-use mathlib.Core.Path.{_≡_, refl, _∙_}
+-- What the judgement of an area of 512 bytes says of the first checks of a call.
+use mathlib.Core.Path.{_≡_, refl, sym, _∙_}
 use mathlib.Core.Bool.{Bool, true, false, not, cond}
 use mathlib.Core.List.{List}
 use Prim.Native.Nat.{ℕ}
 use lib.ListN.{length}
-use Rattle.terms.specs.Number.{noMeter, damaged}
+use Rattle.terms.specs.Number.{accepted, noMeter, damaged}
 use Rattle.terms.specs.Rule.{Rule, firstBroken}
 use Rattle.register.specs.Area.{areaBytes, allZero}
-use Rattle.journal.specs.declared.survey.Survey.{Survey}
-use Rattle.journal.specs.declared.survey.Surveyed.{Surveyed}
-use Rattle.journal.specs.declared.survey.Surveyed.the-variants.{Zero, Damaged, Sound}
+use Rattle.journal.specs.declared.judge.Summary.{Summary}
+use Rattle.journal.specs.declared.judge.Judged.{Judged}
+use Rattle.journal.specs.declared.judge.Judged.the-variants.{Zero, Damaged, Sound}
 use Rattle.journal.specs.Journal.{Journal, journalOf}
 use Rattle.journal.specs.Numbers.{areaRules}
 use Rattle.journal.specs.Sound.{isSound}
-use Rattle.journal.specs.Inner.Survey.{surveyOf, surveyed}
+use Rattle.journal.specs.Inner.Judged.{summaryOf, judged, Counted}
 use Rattle.calls.specs.Checks.{withJournal}
 
 -- by the two tests
-module _ (s : Survey) (more : ℕ) where
-  abbrev verdict : Bool → Bool → Surveyed
+module _ (s : Summary) (more : ℕ) where
+  abbrev verdict : Bool → Bool → Judged
   verdict zero sound = cond zero Zero (cond sound (Sound s) Damaged)
 
   abbrev number : Bool → Bool → ℕ
@@ -34,33 +34,42 @@ module _ (s : Survey) (more : ℕ) where
   if-damaged false true e = cc
   if-damaged false false e = refl
 
-  if-sound : (zero sound : Bool) {v : Survey} → verdict zero sound ≡ Sound v → (v ≡ s) × (number zero sound ≡ more)
-  if-sound true sound e = (cc, cc)
-  if-sound false true e = (cc, refl)
-  if-sound false false e = (cc, cc)
+  if-sound : (zero sound : Bool) {t : Summary} → verdict zero sound ≡ Sound t → (sound ≡ true) × (t ≡ s) × (number zero sound ≡ more)
+  if-sound true sound e = (cc, cc, cc)
+  if-sound false true e = (refl, cc, refl)
+  if-sound false false e = (cc, cc, cc)
 
-module _ (rules : Journal → List Rule) (day value : ℕ) (area : List ℕ) (size : length area ≡ areaBytes) where
+  if-accepted : (zero sound : Bool) → number zero sound ≡ accepted → sound ≡ true
+  if-accepted true sound e = cc
+  if-accepted false true e = refl
+  if-accepted false false e = cc
+
+module _ (rules : Journal → List Rule) (area : List ℕ) (size : length area ≡ areaBytes) where
   abbrev firstNumber : ℕ
   firstNumber = firstBroken (withJournal rules area)
 
   abbrev journalNumber : ℕ
   journalNumber = firstBroken (rules (journalOf area))
 
-  area-first : firstNumber ≡ number (surveyOf day value (journalOf area)) journalNumber (allZero area) (isSound area)
+  area-first : firstNumber ≡ number (summaryOf (journalOf area)) journalNumber (allZero area) (isSound area)
   unfolding areaRules
   area-first = refl
 
-  judged : surveyed day value area ≡ verdict (surveyOf day value (journalOf area)) journalNumber (allZero area) (isSound area)
-  unfolding surveyed
-  judged = rw size
+  area-judged : judged area ≡ verdict (summaryOf (journalOf area)) journalNumber (allZero area) (isSound area)
+  unfolding judged
+  area-judged = rw size
 
-  pub zero-number : surveyed day value area ≡ Zero → firstNumber ≡ noMeter
-  zero-number e = area-first ∙ if-zero (surveyOf day value (journalOf area)) journalNumber (allZero area) (isSound area) (rw judged at e)
+  pub zero-number : judged area ≡ Zero → firstNumber ≡ noMeter
+  zero-number e = area-first ∙ if-zero (summaryOf (journalOf area)) journalNumber (allZero area) (isSound area) (rw area-judged at e)
 
-  pub damaged-number : surveyed day value area ≡ Damaged → firstNumber ≡ damaged
-  damaged-number e = area-first ∙ if-damaged (surveyOf day value (journalOf area)) journalNumber (allZero area) (isSound area) (rw judged at e)
+  pub damaged-number : judged area ≡ Damaged → firstNumber ≡ damaged
+  damaged-number e = area-first ∙ if-damaged (summaryOf (journalOf area)) journalNumber (allZero area) (isSound area) (rw area-judged at e)
 
-  pub sound-number : {v : Survey} → surveyed day value area ≡ Sound v → (v ≡ surveyOf day value (journalOf area)) × (firstNumber ≡ journalNumber)
+  pub sound-number : {t : Summary} → judged area ≡ Sound t → Counted area t × (firstNumber ≡ journalNumber)
   sound-number e =
-      let s = if-sound (surveyOf day value (journalOf area)) journalNumber (allZero area) (isSound area) (rw judged at e) in
-      (s .0, area-first ∙ s .1)
+      let s = if-sound (summaryOf (journalOf area)) journalNumber (allZero area) (isSound area) (rw area-judged at e) in
+      (record { long = size; sound = s .0; summary = s .1 }, area-first ∙ s .2)
+
+  -- an area that no check refuses is sound
+  pub accepted-sound : firstNumber ≡ accepted → isSound area ≡ true
+  accepted-sound e = if-accepted (summaryOf (journalOf area)) journalNumber (allZero area) (isSound area) (sym area-first ∙ e)

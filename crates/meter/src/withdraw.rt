@@ -2,23 +2,26 @@
 ghost use mathlib.Core.Path.{_≡_};
 ghost use lib.IntN.{negℤ};
 ghost use lib.ListN.{length};
+ghost use Rattle.terms.specs.Entry.{slotAt};
 ghost use Rattle.terms.specs.Rule.{firstBroken};
 ghost use Rattle.rules.specs.Volume.{advanceOver};
 ghost use Rattle.register.specs.Area.{areaBytes};
-ghost use Rattle.journal.specs.Journal.{Journal};
-ghost use Rattle.journal.specs.Inner.Survey.{surveyOf};
+ghost use Rattle.journal.specs.Journal.{Journal, journalOf, standing};
+ghost use Rattle.journal.specs.Inner.Judged.{summaryOf, Counted};
 ghost use Rattle.calls.specs.Checks.{isNotLast, withdrawRules};
 ghost use Rattle.calls.specs.Calls.{acted, withdrawnAnswer, withdrawnBytes, withdrawIn, done, step};
 ghost use Rattle.meter.specs.Inner.Withdrawal.{Decides};
 use arithmetic::advance::advance;
 use calls::call::Call;
 use calls::call::Reply;
-use journal::slot::is_there;
-use journal::survey::Survey;
-use journal::survey::Surveyed;
-use journal::survey::survey_area;
+use journal::judge::Judged;
+use journal::judge::Summary;
+use journal::judge::judge_area;
 use place::Located;
 use place::locate;
+use reads::found::has_standing;
+use reads::recent::last;
+use reads::recent::second;
 use register::area::Layout;
 use register::head::offset_after;
 use register::write::put_byte;
@@ -31,51 +34,48 @@ use terms::entry::Kind;
 use terms::entry::Slot;
 use terms::number::Number;
 
-// A refusal, or the journal that the call is to change.
+// A refusal, or what was counted of the journal that the call is to change.
 pub enum Decided {
     Refused(u8),
-    Taken(Survey),
+    Taken(Summary),
 }
 
-fn is_not_last(day: u16, value: u32, last: Slot) -> bool
-    ensures { λ r. ⌜ r ≡ isNotLast day value last ⌝ }
+// The last standing read has another day or value, or there is none. What was counted has both, so no entry is read.
+fn is_not_last(t: Summary, day: u16, value: u32) -> bool
+    ensures { λ r. ⌜ ((j : Journal) → t ≡ summaryOf j → r ≡ isNotLast day value (slotAt (standing (j .entries)) 0)) ⌝ }
 {
-    match last {
-        Slot::Read(r0) => !((r0.day == day) & (r0.value == value)),
-        Slot::Empty => true,
-    }
+    let counts = t.counts;
+    !((0 < counts.standing) & ((t.day == day) & (t.last == value)))
 }
 
-// 22, 23 or 0 for a sound journal.
-fn check_withdrawal(v: Survey, day: u16, value: u32) -> u8
-    ensures { λ r. ⌜ ((j : Journal) → v ≡ surveyOf day value j → r ≡ firstBroken (withdrawRules day value j)) ⌝ }
+// 22, 23 or 0 for a sound journal. The last standing read needs no search, so only a refusal makes one.
+fn check_withdrawal(area: &[u8], t: Summary, day: u16, value: u32) -> u8
+    requires { ⌜ Counted (now area) t ⌝ }
+    ensures { λ r. ⌜ r ≡ firstBroken (withdrawRules day value (journalOf (now (area .entry)))) ⌝ }
 {
-    let found = v.found;
-    let recent = v.recent;
-    let last = recent.last;
-    if !found.standing {
+    if is_not_last(t, day, value) {
+        if has_standing(area, t, day, value) {
+            return Number::NOT_LAST;
+        }
         return Number::NOT_STANDING;
-    }
-    if is_not_last(day, value, last) {
-        return Number::NOT_LAST;
     }
     Number::ACCEPTED
 }
 
-// 3, 4, 22, 23, or the journal to change.
+// 3, 4, 22, 23, or what was counted of the journal to change.
 fn decide_withdrawal(area: &[u8], day: u16, value: u32) -> Decided
     requires { ⌜ length (now area) ≡ areaBytes ⌝ }
     ensures { λ r. ⌜ Decides day value (now (area .entry)) r ⌝ }
 {
-    match survey_area(area, day, value) {
-        Surveyed::Zero => Decided::Refused(Number::NO_METER),
-        Surveyed::Damaged => Decided::Refused(Number::DAMAGED),
-        Surveyed::Sound(v) => {
-            let number = check_withdrawal(v, day, value);
+    match judge_area(area) {
+        Judged::Zero => Decided::Refused(Number::NO_METER),
+        Judged::Damaged => Decided::Refused(Number::DAMAGED),
+        Judged::Sound(t) => {
+            let number = check_withdrawal(area, t, day, value);
             if number != Number::ACCEPTED {
                 return Decided::Refused(number);
             }
-            Decided::Taken(v)
+            Decided::Taken(t)
         }
     }
 }
@@ -125,24 +125,22 @@ fn mark_withdrawn(area: &mut [u8], newest: u16, end: u16, held: bool)
     }
 }
 
-// The call on the area that it names.
+// The call on the area that it names. All entries but a held one are kept.
 fn withdraw_in(area: &mut [u8], day: u16, value: u32) -> Answer
     requires { ⌜ length (now area) ≡ areaBytes ⌝ }
     ensures { λ r. ⌜ acted (Reply.Answered r) (now (area .exit)) ≡ withdrawIn day value (now (area .entry)) ⌝ }
 {
     match decide_withdrawal(area, day, value) {
         Decided::Refused(number) => refuse(number),
-        Decided::Taken(v) => {
-            let head = v.head;
-            let counts = v.counts;
-            let recent = v.recent;
-            let held = v.held;
-            let last = recent.last;
-            let second = recent.second;
+        Decided::Taken(t) => {
+            let head = t.head;
+            let counts = t.counts;
+            let r0 = last(area, t);
+            let r1 = second(area, t);
             let newest = offset_after(head, counts.newest);
             let end = offset_after(head, counts.kept);
-            mark_withdrawn(area, newest, end, is_there(held));
-            withdrawn_answer(head.dials, last, second)
+            mark_withdrawn(area, newest, end, counts.kept != t.entries);
+            withdrawn_answer(head.dials, r0, r1)
         }
     }
 }

@@ -1,11 +1,10 @@
 -- The judgement of the area decides the definition's checks, and counts the journal's entries.
-use mathlib.Core.Path.{_≡_, sym, _∙_}
+use mathlib.Core.Path.{sym, _∙_}
 use mathlib.Core.List.{[]}
 use Rattle.register.specs.Head.{entryOffset}
 use Rattle.journal.specs.Journal.{journalOf}
 use Rattle.journal.specs.Inner.Judged.{summaryOf}
 use Rattle.journal.proofs.Entries.{length-entries}
-use Rattle.journal.proofs.Verdicts.{zero-is, damaged-is, sound-is}
 use Rattle.calls.specs.Checks.{reportChecks}
 use Rattle.calls.specs.Calls.{lengthIn}
 use Rattle.meter.proofs.Judged.{zero-number, damaged-number, sound-number}
@@ -35,21 +34,21 @@ returns : tie.Need-returns
 unfolding lengthIn reportChecks
 returns c =
     let d = c .before .before in
-    rw (zero-number (λ j. []) 0 0 _ (d .before .before .pre) (zero-is 0 0 _ (sym (d .judge-area .ensures .found-is) ∙ c .enum-told .given .1)))
+    rw (zero-number (λ j. []) _ (d .before .before .pre) (sym (d .judge-area .ensures .found-is) ∙ c .enum-told .given .1))
 
 returns-2 : tie.Need-returns-2
 unfolding lengthIn reportChecks
 returns-2 c =
     let d = c .before .before in
-    rw (damaged-number (λ j. []) 0 0 _ (d .before .before .pre) (damaged-is 0 0 _ (sym (d .judge-area .ensures .found-is) ∙ c .enum-told2 .given .1)))
+    rw (damaged-number (λ j. []) _ (d .before .before .pre) (sym (d .judge-area .ensures .found-is) ∙ c .enum-told2 .given .1))
 
 returns-3 : tie.Need-returns-3
 unfolding lengthIn reportChecks summaryOf journalOf entryOffset
 returns-3 c =
     let t = c .before .before .before in
     let d = t .before .before in
-    let sound = sound-is 0 0 _ (sym (d .judge-area .ensures .found-is) ∙ t .t .given .1) in
-    rw (c .offset-after .ensures, sound-number (λ j. []) 0 0 _ (d .before .before .pre) (sound .3) .1, sound .2, length-entries)
+    let sound = sound-number (λ j. []) _ (d .before .before .pre) (sym (d .judge-area .ensures .found-is) ∙ t .t .given .1) in
+    rw (c .offset-after .ensures, sound .1, sound .0 .summary, length-entries)
 
 pub length-in-spec : {M : Type 1} → statement M
 length-in-spec =

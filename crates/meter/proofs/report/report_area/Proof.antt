@@ -4,9 +4,7 @@ use mathlib.Core.List.{[]}
 use borrow.Author.Needs.{sfits-of}
 use mir.Syntax.{w64}
 use mir.ValLaws.{toZ-ofZ}
-use Rattle.journal.specs.Inner.Survey.{countsOf}
-use Rattle.journal.specs.Inner.Judged.{summaryOf}
-use Rattle.journal.proofs.Verdicts.{zero-is, damaged-is, sound-is}
+use Rattle.journal.specs.Inner.Judged.{countsOf, summaryOf}
 use Rattle.calls.specs.Checks.{reportChecks}
 use Rattle.calls.specs.Calls.{flaggedOf, reportOf, reportIn}
 use Rattle.meter.proofs.Judged.{zero-number, damaged-number, sound-number}
@@ -45,23 +43,22 @@ returns : tie.Need-returns
 unfolding reportIn reportChecks
 returns c =
     let d = c .before .before .before in
-    rw (c .refuse-report .ensures, zero-number (λ j. []) 0 0 _ (d .before .before .pre) (zero-is 0 0 _ (sym (d .judge-area .ensures .found-is) ∙ c .before .enum-told .given .1)))
+    rw (c .refuse-report .ensures, zero-number (λ j. []) _ (d .before .before .pre) (sym (d .judge-area .ensures .found-is) ∙ c .before .enum-told .given .1))
 
 returns-2 : tie.Need-returns-2
 unfolding reportIn reportChecks
 returns-2 c =
     let d = c .before .before .before in
-    rw (c .refuse-report2 .ensures, damaged-number (λ j. []) 0 0 _ (d .before .before .pre) (damaged-is 0 0 _ (sym (d .judge-area .ensures .found-is) ∙ c .before .enum-told2 .given .1)))
+    rw (c .refuse-report2 .ensures, damaged-number (λ j. []) _ (d .before .before .pre) (sym (d .judge-area .ensures .found-is) ∙ c .before .enum-told2 .given .1))
 
 returns-3 : tie.Need-returns-3
 unfolding reportIn reportChecks reportOf summaryOf countsOf flaggedOf
 returns-3 c =
     let found = c .before .before .before .before .before in
     let d = found .before .before in
-    let sound = sound-is 0 0 _ (sym (d .judge-area .ensures .found-is) ∙ found .t .given .1) in
-    let number = sound-number (λ j. []) 0 0 _ (d .before .before .pre) (sound .3) .1 in
-    let total = toZ-ofZ w64 _ (sfits-of (c .total .ok)) ∙ c .total .ensures _ (sound .2) in
-    rw (total, number, sound .2)
+    let sound = sound-number (λ j. []) _ (d .before .before .pre) (sym (d .judge-area .ensures .found-is) ∙ found .t .given .1) in
+    let total = toZ-ofZ w64 _ (sfits-of (c .total .ok)) ∙ c .total .ensures _ (sound .0 .summary) in
+    rw (total, sound .1, sound .0 .summary)
 
 pub report-area-spec : {M : Type 1} → statement M
 report-area-spec =

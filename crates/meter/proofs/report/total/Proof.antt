@@ -11,8 +11,7 @@ use Rattle.terms.specs.Entry.{slotAt}
 use Rattle.rules.proofs.Laws.{advance-word}
 use Rattle.journal.specs.declared.judge.Summary.{Summary}
 use Rattle.journal.specs.Journal.{Journal, standing, firstValue}
-use Rattle.journal.specs.Inner.Judged.{valueOf, summaryOf}
-use Rattle.journal.specs.Inner.Survey.{countsOf}
+use Rattle.journal.specs.Inner.Judged.{countsOf, valueOf, summaryOf}
 use Rattle.calls.specs.Calls.{flaggedOf, totalOf}
 use borrow.Author.Needs.{needs}
 use Rattle.meter.proofs.report.total.Statement.{statement}

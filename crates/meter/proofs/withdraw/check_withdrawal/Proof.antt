@@ -1,39 +1,56 @@
--- The survey's fields are the journal's, and the two tests stand in the definition's order.
-use mathlib.Core.Path.{_≡_}
-use mathlib.Core.Bool.{not}
+-- The last standing read stands, so the definition's first test fails where its second does; else both stand in its order.
+use mathlib.Core.Path.{_≡_, sym, _∙_}
+use mathlib.Core.Bool.{true, false}
+use mathlib.Core.List.{List, [], _∷_}
 use Prim.Native.Nat.{ℕ}
-use Rattle.terms.specs.Entry.{slotAt, recentOf}
-use Rattle.journal.specs.declared.survey.Survey.{Survey}
-use Rattle.journal.specs.Journal.{Journal, standing}
-use Rattle.journal.specs.Inner.Survey.{foundOf, surveyOf}
-use Rattle.calls.specs.Checks.{isNotStanding, withdrawRules}
+use borrow.Author.Tests.{not-false}
+use Rattle.terms.specs.declared.entry.Entry.{Entry}
+use Rattle.terms.specs.Entry.{slotAt}
+use Rattle.journal.specs.Journal.{journalOf, standing}
+use Rattle.journal.specs.Sound.{any, hasRead}
+use Rattle.journal.proofs.Bools.{false-is}
+use Rattle.calls.specs.Checks.{isNotStanding, isNotLast, withdrawRules}
 use borrow.Author.Needs.{needs}
 use Rattle.meter.proofs.withdraw.check_withdrawal.Statement.{statement}
 use Rattle.meter.proofs.withdraw.check_withdrawal.Tie as tie
 
-module _ (day value : ℕ) (j : Journal) {v : Survey} (e : v ≡ surveyOf day value j) where
-  by-found : isNotStanding day value (standing (j .entries)) ≡ not (v .found .standing)
-  unfolding isNotStanding surveyOf foundOf
-  by-found = rw e
+last-stands : (day value : ℕ) (ss : List Entry) → isNotLast day value (slotAt ss 0) ≡ false → any (hasRead day value) ss ≡ true
+unfolding slotAt isNotLast any
+last-stands day value [] h = false-is (sym h)
+last-stands day value (s ∷ ss) h = rw (not-false (hasRead day value s) h)
 
-  by-recent : slotAt (standing (j .entries)) 0 ≡ v .recent .last
-  unfolding surveyOf recentOf
-  by-recent = rw e
+module _ (c : tie.After-is-not-last) where
+  abbrev start : tie.Start
+  start = c .before .before
 
-returns : tie.Need-returns
-unfolding withdrawRules
-returns c = λ j e. rw (by-found _ _ j e, c .if1 .taken)
+  last-is : isNotLast (start .args .day) (start .args .value) (slotAt (standing (journalOf (start .args .area .now) .entries)) 0) ≡ c .is-not-last .result
+  last-is = sym (c .is-not-last .ensures _ (start .pre .summary))
+
+standing-is : (c : tie.After-has-standing) → let s = start (c .before .before) .args in any (hasRead (s .day) (s .value)) (standing (journalOf (s .area .now) .entries)) ≡ c .has-standing .result
+standing-is c = sym (c .has-standing .ensures (start (c .before .before) .pre))
 
 is-not-last-requires : tie.Need-is-not-last-requires
 is-not-last-requires c κs = search needs
 
+has-standing-requires : tie.Need-has-standing-requires
+has-standing-requires c κs = search needs
+
+returns : tie.Need-returns
+unfolding withdrawRules isNotStanding
+returns c =
+    let h = c .before in
+    rw (standing-is h, c .if2 .taken, last-is (h .before .before), h .before .if1 .taken)
+
 returns-2 : tie.Need-returns-2
-unfolding withdrawRules
-returns-2 c = λ j e. rw (by-found _ _ j e, c .before .before .if1 .left, by-recent _ _ j e, ← c .before .is-not-last .ensures, c .if2 .taken)
+unfolding withdrawRules isNotStanding
+returns-2 c = rw (standing-is (c .before), c .if2 .left)
 
 returns-3 : tie.Need-returns-3
-unfolding withdrawRules
-returns-3 c = λ j e. rw (by-found _ _ j e, c .before .before .if1 .left, by-recent _ _ j e, ← c .before .is-not-last .ensures, c .if2 .left)
+unfolding withdrawRules isNotStanding
+returns-3 c =
+    let last = last-is (c .before) ∙ c .if1 .left in
+    rw (last-stands _ _ _ last, last)
 
 pub check-withdrawal-spec : {M : Type 1} → statement M
-check-withdrawal-spec = tie.close (tie.spec returns is-not-last-requires returns-2 returns-3)
+check-withdrawal-spec =
+    tie.close (tie.spec is-not-last-requires has-standing-requires returns returns-2 returns-3)

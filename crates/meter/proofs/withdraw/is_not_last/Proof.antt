@@ -1,23 +1,32 @@
--- The match on the slot is the definition's.
+-- What was counted has the day and the value of the first of the standing reads, the newest.
+use mathlib.Core.Path.{_≡_, refl}
+use mathlib.Core.Bool.{not, _&&_}
+use mathlib.Core.List.{List, [], _∷_}
+use Prim.Native.Nat.{ℕ, _<_}
+use native.Mathlib.Omega.{arith}
+use borrow.Author.Tests.{lt-ltb}
+use lib.Dec.{eqb, ltb}
+use lib.ListN.{length}
+use Rattle.terms.specs.declared.entry.Entry.{Entry}
+use Rattle.terms.specs.Entry.{slotAt}
+use Rattle.journal.specs.Journal.{standing}
 use Rattle.journal.specs.Sound.{hasRead}
+use Rattle.journal.specs.Inner.Loops.{dayOf}
+use Rattle.journal.specs.Inner.Judged.{countsOf, valueOf, summaryOf}
 use Rattle.calls.specs.Checks.{isNotLast}
-use borrow.Author.Needs.{needs}
 use Rattle.meter.proofs.withdraw.is_not_last.Statement.{statement}
 use Rattle.meter.proofs.withdraw.is_not_last.Tie as tie
 
-enum-known-last : tie.Need-enum-known-last
-enum-known-last c = search needs
-
-enum-told : tie.Need-enum-told
-enum-told c = search needs
+by-last : (day value : ℕ) (ss : List Entry) → not (ltb 0 (length ss) && (eqb (dayOf (slotAt ss 0)) day && eqb (valueOf (slotAt ss 0)) value)) ≡ isNotLast day value (slotAt ss 0)
+unfolding slotAt dayOf valueOf isNotLast hasRead
+by-last day value [] = refl
+by-last day value (s ∷ ss) =
+    let some : 0 < length (s ∷ ss) = omega arith in
+    rw (lt-ltb 0 (length (s ∷ ss)) some)
 
 returns : tie.Need-returns
-unfolding isNotLast hasRead
-returns c = rw (c .before .before .before .last .given .1)
-
-returns-2 : tie.Need-returns-2
-unfolding isNotLast
-returns-2 c = rw (c .enum-told .given .1)
+unfolding summaryOf countsOf
+returns c = λ j e. rw e (by-last _ _ (standing (j .entries)))
 
 pub is-not-last-spec : {M : Type 1} → statement M
-is-not-last-spec = tie.close (tie.spec enum-known-last enum-told returns returns-2)
+is-not-last-spec = tie.close (tie.spec returns)
