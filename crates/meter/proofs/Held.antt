@@ -9,11 +9,12 @@ use lib.Dec.{eqb}
 use lib.ListN.{length, drop}
 use Rattle.terms.specs.declared.entry.Entry.{Entry}
 use Rattle.terms.specs.Entry.{those}
+use Rattle.register.specs.Area.{allZero}
 use Rattle.register.specs.declared.head.Head.{Head}
 use Rattle.register.specs.Entries.{entryStart}
 use Rattle.register.specs.Head.{headOf, bodyOf}
 use Rattle.journal.specs.declared.judge.Summary.{Summary}
-use Rattle.journal.specs.Journal.{journalOf, allZero, entryCount, kept, heldOf, isThere}
+use Rattle.journal.specs.Journal.{journalOf, entryCount, kept, heldOf, isThere}
 use Rattle.journal.specs.Sound.{isHead, areInOrder, areSound, isSound}
 use Rattle.journal.specs.Inner.Judged.{countsOf, summaryOf, Counted}
 use Rattle.journal.proofs.Bools.{both}
