@@ -12,7 +12,8 @@ pub fn rows() -> Vec<Row> {
     rows.extend([3, 25, 49].map(|entries| submit("refused last, capacity (21)", entries, 190, Number::Capacity)));
     rows.extend([3, 25, 49].map(|entries| submit("held, low (19)", entries, 19, Number::Low)));
     rows.extend([3, 25, 49].map(|entries| submit("held, high (20)", entries, 201, Number::High)));
-    rows.extend([1, 25, 50].map(withdraw));
+    rows.extend([1, 25, 50].map(|entries| withdraw("accepted", entries, Withdrawn::None)));
+    rows.extend(WITHDRAWN.map(|(case, withdrawn)| withdraw(case, 50, withdrawn)));
     rows.push(enrol());
     rows.extend([0, 50].map(|entries| row(Made::Journal, "handed back", entries, Number::Accepted)));
     rows
@@ -22,6 +23,13 @@ fn row(made: Made, case: &'static str, entries: usize, expected: Number) -> Row 
     let places = (0..PLACES).collect();
     Row { call: made.word(), case, entries, expected, made, places, register: register(entries, Withdrawn::None) }
 }
+
+/// The journals with withdrawn entries.
+const WITHDRAWN: [(&str, Withdrawn); 3] = [
+    ("accepted, every second entry withdrawn", Withdrawn::EverySecond),
+    ("accepted, all entries but the first withdrawn", Withdrawn::AllButFirst),
+    ("accepted, half the entries dated ahead and withdrawn", Withdrawn::DatedAhead),
+];
 
 // ---- Reports ----
 
@@ -41,8 +49,7 @@ fn report_damaged(entries: usize) -> Row {
 
 fn reports() -> Vec<Row> {
     let mut rows: Vec<Row> = [0, 3, 25, 50].map(report).into();
-    let half = register(50, Withdrawn::EverySecond);
-    rows.push(Row { case: "accepted, every second entry withdrawn", register: half, ..report(50) });
+    rows.extend(WITHDRAWN.map(|(case, withdrawn)| Row { case, register: register(50, withdrawn), ..report(50) }));
     rows.push(report_damaged(50));
     rows.push(report_at("accepted, place 0", 0));
     rows.push(report_at("accepted, place 31", 31));
@@ -67,8 +74,7 @@ fn submit_over(case: &'static str, entries: usize, withdrawn: Withdrawn) -> Row 
 
 fn accepted_submissions() -> Vec<Row> {
     let mut rows: Vec<Row> = [0, 3, 25, 49].map(submit_accepted).into();
-    rows.push(submit_over("accepted, every second entry withdrawn", 49, Withdrawn::EverySecond));
-    rows.push(submit_over("accepted, all entries but the first withdrawn", 49, Withdrawn::AllButFirst));
+    rows.extend(WITHDRAWN.map(|(case, withdrawn)| submit_over(case, 49, withdrawn)));
     rows
 }
 
@@ -85,9 +91,10 @@ fn place_64(entries: usize) -> Row {
 
 // ---- The other calls ----
 
-fn withdraw(entries: usize) -> Row {
-    let last = entries - 1;
-    row(Made::Withdraw { day: day(last), value: value(last) }, "accepted", entries, Number::Accepted)
+fn withdraw(case: &'static str, entries: usize, withdrawn: Withdrawn) -> Row {
+    let last = withdrawn.standing(entries) - 1;
+    let made = Made::Withdraw { day: day(last), value: value(last) };
+    Row { register: register(entries, withdrawn), ..row(made, case, entries, Number::Accepted) }
 }
 
 fn enrol() -> Row {

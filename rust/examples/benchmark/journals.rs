@@ -20,9 +20,17 @@ const ENTRY_BYTES: usize = 10;
 #[derive(Clone, Copy)]
 pub enum Withdrawn {
     None,
+    /// A misread before each read but the first.
     EverySecond,
+    /// Misreads after the first read.
     AllButFirst,
+    /// The reads after the first, as many as stand, first sent half a round too late: all of them were withdrawn before
+    /// they were sent again.
+    DatedAhead,
 }
+
+/// How many reads were dated ahead.
+const AHEAD: usize = 24;
 
 impl Withdrawn {
     /// How many of a journal's first entries stand.
@@ -31,6 +39,7 @@ impl Withdrawn {
             Withdrawn::None => entries,
             Withdrawn::EverySecond => entries.div_ceil(2),
             Withdrawn::AllButFirst => entries.min(1),
+            Withdrawn::DatedAhead => entries.min(1) + entries.saturating_sub(1 + AHEAD),
         }
     }
 }
@@ -58,28 +67,30 @@ pub fn next_read(standing: usize, advance: u32) -> Submission {
     Submission { submitted: day, day, value: last + advance, letter: letter(standing), indicator: 0, reread: 0 }
 }
 
-/// A register with the same journal at every place. A withdrawn entry is a misread of the read that stands next: of its
-/// day and type, with another value.
+/// A register with the same journal at every place. A withdrawn entry is a misread of the read that stands next, of its
+/// day and type with another value, or was dated ahead.
 pub fn register(entries: usize, withdrawn: Withdrawn) -> Vec<u8> {
     let mut area = vec![0; AREA_BYTES];
     area[..2].copy_from_slice(&[1, DIALS]);
     area[2..METER_BYTES].copy_from_slice(&CAPACITY.to_le_bytes());
     for (position, entry) in area[METER_BYTES..].chunks_exact_mut(ENTRY_BYTES).take(entries).enumerate() {
         let standing = withdrawn.standing(position);
-        if withdrawn.standing(position + 1) > standing {
-            write_entry(entry, 2, standing, value(standing));
-        } else {
-            write_entry(entry, 3, standing, value(standing) + 1 + position as u32);
-        }
+        let stands = withdrawn.standing(position + 1) > standing;
+        let (kind, day, value) = match withdrawn {
+            _ if stands => (2, day(standing), value(standing)),
+            Withdrawn::DatedAhead => (3, day(position) + DAYS / 2, value(position)),
+            _ => (3, day(standing), value(standing) + 1 + position as u32),
+        };
+        write_entry(entry, kind, day, value, letter(standing));
     }
     area.repeat(usize::from(PLACES))
 }
 
-fn write_entry(entry: &mut [u8], kind: u8, standing: usize, value: u32) {
+fn write_entry(entry: &mut [u8], kind: u8, day: u16, value: u32, letter: u8) {
     entry[0] = kind;
-    entry[1..3].copy_from_slice(&day(standing).to_le_bytes());
+    entry[1..3].copy_from_slice(&day.to_le_bytes());
     entry[3..7].copy_from_slice(&value.to_le_bytes());
-    entry[7..].copy_from_slice(&[letter(standing), 0, 0]);
+    entry[7..].copy_from_slice(&[letter, 0, 0]);
 }
 
 /// Gives the entry that follows so many others an unknown type, at every place.
