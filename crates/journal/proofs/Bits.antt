@@ -11,7 +11,7 @@ use lib.Pow.{pow-pos, pow-lt}
 use Rattle.terms.specs.Letter.{isKnown, isOpening, isFinal}
 use Rattle.register.specs.declared.head.Head.{Head}
 use Rattle.journal.specs.Sound.{takes}
-use Rattle.journal.specs.Inner.Marks.{isMarked, markOn, hasLetter}
+use Rattle.journal.specs.Inner.Marks.{markOf, isMarked, markOn, hasLetter}
 use Rattle.journal.specs.Inner.Plain.{PlainLetter}
 use Rattle.journal.proofs.Bools.{false-is, both}
 
@@ -27,19 +27,25 @@ set-left : (a b k : ℕ) → a / 2 ^ k % 2 ≡ 1 → bitOr a b / 2 ^ k % 2 ≡ 1
 set-left a b k h = or-bit a b k ∙ ap (λ (n : ℕ). bitOr n (b / 2 ^ k % 2)) h ∙ or-one (b / 2 ^ k % 2) (mod-lt (b / 2 ^ k) (omega arith))
 
 pub stays-marked : (marks w v : ℕ) → isMarked marks v ≡ true → isMarked (markOn marks w) v ≡ true
-unfolding isMarked markOn
+unfolding markOf markOn
 stays-marked marks w v h = eq-eqb _ _ (set-left marks (2 ^ (w % 64)) (v % 64) (eqb-true _ _ h))
 
 pub then-marked : (marks v : ℕ) → isMarked (markOn marks v) v ≡ true
-unfolding isMarked markOn
+unfolding markOf markOn
 then-marked marks v =
     let k = v % 64 in
     let own : 2 ^ k / 2 ^ k % 2 ≡ 1 = ap (λ (n : ℕ). n % 2) (div-self (pow-pos k)) in
     eq-eqb _ _ (ap (λ (n : ℕ). n / 2 ^ k % 2) (or-comm marks (2 ^ k)) ∙ set-left (2 ^ k) marks k own)
 
-pub none-has-mark : (v : ℕ) → isMarked 0 v ≡ false
-unfolding isMarked
-none-has-mark v = rw (zero-div (2 ^ (v % 64)))
+pub no-mark : (v : ℕ) → markOf 0 v ≡ 0
+unfolding markOf
+no-mark v = rw (zero-div (2 ^ (v % 64)))
+
+pub mark-small : (marks v : ℕ) → markOf marks v ≤ 1
+unfolding markOf
+mark-small marks v =
+    let small : marks / 2 ^ (v % 64) % 2 < 2 = mod-lt (marks / 2 ^ (v % 64)) (omega arith) in
+    omega arith
 
 -- the bit as a shift of 64 bits has it
 pub bit-shifted : (v : ℕ) → (1 * 2 ^ (v % 64)) % 18446744073709551616 ≡ 2 ^ (v % 64)
@@ -69,7 +75,7 @@ plain-there : ℕ → Bool
 plain-there k = not (isMarked 54263848 (64 + k)) || isPlain (64 + k)
 
 all-plain : all-below 64 plain-there ≡ true
-unfolding all-below plain-there isPlain isMarked isKnown isOpening isFinal
+unfolding all-below plain-there isPlain markOf isKnown isOpening isFinal
 all-plain = refl
 
 one-of : (x y : Bool) → x ≡ true → not x || y ≡ true → y ≡ true

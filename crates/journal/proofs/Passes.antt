@@ -1,6 +1,6 @@
 -- The pass after one entry more, and how it ends.
 use mathlib.Core.Path.{_≡_, refl, sym, ap, _∙_}
-use mathlib.Core.Bool.{Bool, true, false, not, _&&_, _||_, cond, and-false}
+use mathlib.Core.Bool.{Bool, true, false, not, _&&_, _||_, cond}
 use mathlib.Core.List.{List, [], _∷_}
 use Prim.Native.Nat.{ℕ, _+_, _-_, _≤_, _<_}
 use native.Mathlib.Numerals.{add-one}
@@ -20,11 +20,10 @@ use Rattle.register.specs.Head.{mostEntries}
 use Rattle.journal.specs.Journal.{entriesTo, countFrom, standing, heldOf, isThere, firstValue}
 use Rattle.journal.specs.Sound.{every, any, isFinalRead, holds, takes, opens, isInRange, isRead, daysRise, opensRight, hasOneFinal, isHeldRight, areInOrder}
 use Rattle.journal.specs.Inner.Loops.{standsBy, followsBy, dayOf}
-use Rattle.journal.specs.Inner.Past.{marksOf, mayHave}
+use Rattle.journal.specs.Inner.Past.{doubtsIn}
 use Rattle.journal.specs.Inner.Run.{runOf}
 use Rattle.journal.specs.Inner.Plain.{IsLimits, IsOpen, RunsTo}
 use Rattle.journal.specs.Inner.Pass.{passOf, IsPass, IsPassed, First, Starts}
-use Rattle.journal.proofs.Bits.{none-has-mark}
 use Rattle.journal.proofs.Entries.{any-kept, one-more, length-entries, count-on}
 use Rattle.journal.proofs.InOrder.{in-order-more, by-numbers, days-rise, stands-unheld, disordered-stays}
 use Rattle.journal.proofs.Runs.{there-kept, first-kept, held-there}
@@ -150,16 +149,9 @@ module _ {head : Head} {l : Limits} {e : Entry} (limits : IsLimits head l) (firs
         ended-is = rw (first .stands, opening-is (e .letter) (first .opening) .1);
       }
 
-pub start-zero : {run : Run} → run ≡ runOf [] → (run .count ≡ 0) × (run .standing ≡ 0) × (run .flagged ≡ 0)
-unfolding runOf those
-start-zero h = (ap (λ (r : Run). r .count) h, ap (λ (r : Run). r .standing) h, ap (λ (r : Run). r .flagged) h)
-
--- nothing is withdrawn, so nothing has a mark
-pub start-free : {run : Run} (day value : ℕ) → run ≡ runOf [] → false ≡ mayHave (run .latest) (run .marks) day value
-unfolding runOf marksOf mayHave
-start-free {run} day value h =
-    let none : run .marks ≡ 0 = ap (λ (r : Run). r .marks) h in
-    rw (none, none-has-mark value, and-false)
+pub start-zero : {run : Run} → run ≡ runOf [] → (run .count ≡ 0) × (run .standing ≡ 0) × (run .flagged ≡ 0) × (run .doubts ≡ 0)
+unfolding runOf those doubtsIn
+start-zero h = (ap (λ (r : Run). r .count) h, ap (λ (r : Run). r .standing) h, ap (λ (r : Run). r .flagged) h, ap (λ (r : Run). r .doubts) h)
 
 -- a pass that starts with nothing, and with the read that opens
 module _ (body : List ℕ) (l : Limits) where

@@ -6,7 +6,7 @@ use Prim.Native.Nat.{ℕ, suc, _+_, _-_, _≤_, _<_}
 use native.Mathlib.Numerals.{add-one}
 use native.Mathlib.Omega.{arith}
 use borrow.Author.Tests.{lt-ltb, le-leb, ne-eqb, eqb-true}
-use lib.Dec.{leb}
+use lib.Dec.{leb, ltb}
 use lib.ListN.{length}
 use Rattle.terms.specs.declared.entry.Entry.{Entry}
 use Rattle.terms.specs.Entry.{kindStanding, kindWithdrawn, isStanding, isWithdrawn, isHeld, keepIf, those, slotAt}
@@ -19,10 +19,12 @@ use Rattle.journal.specs.declared.run.Run.{Run}
 use Rattle.journal.specs.Journal.{entriesTo, countFrom, standing, withdrawn, slotIf, heldOf, isThere, isFlagged, firstValue, newestAt}
 use Rattle.journal.specs.Sound.{any, isFinalRead, holds, isInRange, isRead, areInOrder}
 use Rattle.journal.specs.Inner.Loops.{standsBy, followsBy, dayOf}
-use Rattle.journal.specs.Inner.Marks.{markOn}
-use Rattle.journal.specs.Inner.Past.{laterOf, latestDay, liveMarks, marksOf, mayHave, mayClash, mayHaveClash}
+use Rattle.journal.specs.Inner.Marks.{markOf, markOn}
+use Rattle.journal.specs.Inner.Past.{laterOf, latestDay, liveMarks, marksOf, doubtOf, doubtsIn}
 use Rattle.journal.specs.Inner.Run.{runOf, plainTo}
 use Rattle.journal.specs.Inner.Plain.{PlainLetter, IsLimits, PlainBody, Plain, IsOpen, OneOn, RunsTo}
+use Rattle.journal.proofs.Bits.{no-mark}
+use Rattle.journal.proofs.Doubts.{doubts-at-most}
 use Rattle.journal.proofs.Clashes.{stands-unwithdrawn, withdrawn-unstanding}
 use Rattle.journal.proofs.Entries.{any-kept, one-more, length-entries, those-at-most, count-on}
 use Rattle.journal.proofs.InOrder.{in-order-more, by-numbers, stands-unheld}
@@ -65,33 +67,33 @@ held-there false e = refl
 
 -- ---- what is kept
 pub run-more : (e : Entry) (es : List Entry) → runOf (e ∷ es) ≡ record {
-  marks = cond (isWithdrawn e) (markOn (liveMarks (runOf es .day) (runOf es .latest) (runOf es .marks)) (e .value)) (runOf es .marks);
+  marks = cond (isStanding e) (liveMarks (e .day) (runOf es .latest) (runOf es .marks)) (cond (isWithdrawn e) (markOn (runOf es .marks) (e .value)) (runOf es .marks));
   latest = cond (isWithdrawn e) (laterOf (runOf es .latest) (e .day)) (runOf es .latest);
   day = cond (isStanding e) (e .day) (runOf es .day);
   count = runOf es .count + 1;
   standing = cond (isStanding e) (runOf es .standing + 1) (runOf es .standing);
   flagged = cond (isStanding e && isFlagged e) (runOf es .flagged + 1) (runOf es .flagged);
   newest = cond (isStanding e) (runOf es .count) (runOf es .newest);
-  doubt = ((isStanding e && mayHave (runOf es .latest) (runOf es .marks) (e .day) (e .value)) || (isWithdrawn e && leb (e .day) (runOf es .day))) || runOf es .doubt;
+  doubts = runOf es .doubts + cond (isStanding e) (markOf (runOf es .marks) (e .value)) (cond (isWithdrawn e && leb (e .day) (runOf es .day)) 1 0);
 }
-unfolding runOf those newestAt marksOf mayClash mayHaveClash
+unfolding runOf those newestAt marksOf doubtOf doubtsIn
 run-more e es = simp (length-kept, flagged-kept, latest-kept, day-kept, ← add-one)
 
 -- no count is more than that of the entries
-pub run-small : (run : Run) (k : ℕ) (a : List ℕ) → run ≡ runOf (entriesTo k a) → (run .count ≡ k) × (run .standing ≤ run .count) × (run .flagged ≤ run .standing)
+pub run-small : (run : Run) (k : ℕ) (a : List ℕ) → run ≡ runOf (entriesTo k a) → (run .count ≡ k) × (run .standing ≤ run .count) × (run .flagged ≤ run .standing) × (run .doubts ≤ run .count)
 unfolding runOf
 run-small run k a is =
     let es = entriesTo k a in
-    rw is (length-entries k a, omega (arith, those-at-most isStanding es), omega (arith, those-at-most isFlagged (standing es)))
+    rw is (length-entries k a, omega (arith, those-at-most isStanding es), omega (arith, those-at-most isFlagged (standing es)), doubts-at-most es)
 
 module _ {run : Run} (es : List Entry) (is : run ≡ runOf es) where
   pub run-day : run .day ≡ dayOf (slotAt (standing es) 0)
   unfolding runOf
   run-day = ap (λ (r : Run). r .day) is
 
-  pub run-doubt : run .doubt ≡ mayHaveClash es
+  pub run-doubts : run .doubts ≡ doubtsIn es
   unfolding runOf
-  run-doubt = ap (λ (r : Run). r .doubt) is
+  run-doubts = ap (λ (r : Run). r .doubts) is
 
 -- ---- a plain body may follow where a read stands and none is held
 pub withdrawn-unheld : (e : Entry) → isWithdrawn e ≡ true → isHeld e ≡ false
@@ -197,23 +199,31 @@ runs-one {body} {l} {from} {run} {r} {e} runs h read one =
     }
 
 -- ---- plain standing reads alone
+live-none : (day latest : ℕ) → liveMarks day latest 0 ≡ 0
+unfolding liveMarks
+live-none day latest = either (ltb day latest) where
+  either : (b : Bool) → _≡_ {A = ℕ} (cond b 0 0) 0
+  either true = refl
+  either false = refl
+
 pub plain-start : (run : Run) → run .newest ≡ run .count - 1 → plainTo run (run .count) (run .day) ≡ run
 unfolding plainTo
 plain-start run h =
     let same : run .standing + (run .count - run .count) ≡ run .standing = omega arith in
     rw (same, ← h)
 
-pub plain-one : {l : Limits} {e : Entry} (from : Run) (k day : ℕ) → from .count ≤ k → from .latest ≤ day → Plain l day e → OneOn l (plainTo from k day) e (plainTo from (k + 1) (e .day))
-unfolding plainTo isFlagged mayHave
-plain-one {l} {e} from k day h late p =
+pub plain-one : {l : Limits} {e : Entry} (from : Run) (k day : ℕ) → from .count ≤ k → from .marks ≡ 0 → Plain l day e → OneOn l (plainTo from k day) e (plainTo from (k + 1) (e .day))
+unfolding plainTo isFlagged
+plain-one {l} {e} from k day h none p =
     let s = p .stands in
     let before = plainTo from k day in
     let after = plainTo from (k + 1) (e .day) in
-    let after-all : from .latest < e .day = omega (arith, p .body .later) in
     let more : (es : List Entry) → before ≡ runOf es → after ≡ runOf (e ∷ es) =
     λ es is.
     (let stand : from .standing + (k + 1 - from .count) ≡ from .standing + (k - from .count) + 1 = omega arith in
     let newest : k + 1 - 1 ≡ k = omega arith in
-    rw (run-more, ← is, s, stands-unwithdrawn e s, p .body .flag, lt-ltb _ _ after-all, stand, newest))
+    let live : liveMarks (e .day) (from .latest) 0 ≡ 0 = live-none (e .day) (from .latest) in
+    let same : from .doubts + 0 ≡ from .doubts = omega arith in
+    rw (run-more, ← is, s, stands-unwithdrawn e s, p .body .flag, none, live, no-mark (e .value), same, stand, newest))
     in
     stand-one before e after (p .body) refl more s

@@ -16,7 +16,7 @@ pub(crate) fn is_apart(body: &[u8], head: Head, run: Run) -> bool
     requires { ⌜ (entryStart (run .count) ≤ length (now body)) × (run ≡ runOf (entriesTo (run .count) (now body))) × (areInOrder head (entriesTo (run .count) (now body)) ≡ true) ⌝ }
     ensures { λ r. ⌜ r ≡ areApart (standing (entriesTo (run .count) (now (body .entry)))) (withdrawn (entriesTo (run .count) (now (body .entry)))) ⌝ }
 {
-    if !run.doubt {
+    if run.doubts == 0 {
         return true;
     }
     are_apart(body, run.count, run.day)

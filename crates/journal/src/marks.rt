@@ -1,12 +1,19 @@
 // A number with a bit for each of 64 places. A value's place is its remainder.
 ghost use mathlib.Core.Path.{_≡_};
-ghost use Rattle.journal.specs.Inner.Marks.{isMarked, markOn};
+ghost use Rattle.journal.specs.Inner.Marks.{isMarked, markOf, markOn};
 
-pub(crate) fn is_marked(marks: u64, value: u32) -> bool
-    ensures { λ r. ⌜ r ≡ isMarked marks value ⌝ }
+// The bit at a value's place.
+pub(crate) fn mark_of(marks: u64, value: u32) -> u8
+    ensures { λ r. ⌜ r ≡ markOf marks value ⌝ }
 {
     let bit = value % 64;
-    (marks >> bit) % 2 == 1
+    ((marks >> bit) % 2) as u8
+}
+
+pub fn is_marked(marks: u64, value: u32) -> bool
+    ensures { λ r. ⌜ r ≡ isMarked marks value ⌝ }
+{
+    mark_of(marks, value) == 1
 }
 
 pub(crate) fn mark(marks: u64, value: u32) -> u64

@@ -68,7 +68,7 @@ fn first_with(first: u32, opens: bool, e: Entry) -> u32
 
 // One entry more, and whether it may follow.
 fn advance(pass: Pass, limit: u32, e: Entry) -> Pass
-    requires { ⌜ (pass .run .count < 255) × (pass .run .standing ≤ pass .run .count) × (pass .run .flagged ≤ pass .run .standing) ⌝ }
+    requires { ⌜ (pass .run .count < 255) × (pass .run .standing ≤ pass .run .count) × (pass .run .flagged ≤ pass .run .standing) × (pass .run .doubts ≤ pass .run .count) ⌝ }
     ensures { λ r. ⌜ ((head : Head) (es : List Entry) → limit ≡ tenTo (head .dials) → pass ≡ passOf head es → r ≡ passOf head (e ∷ es)) ⌝ }
 {
     let run = pass.run;
@@ -121,7 +121,7 @@ fn open_over(body: &[u8], limits: Limits) -> Pass
     if !is_first(limits.limit, e) {
         return start;
     }
-    let opened = stand(start.run, 0, false, e);
+    let opened = stand(start.run, 0, e);
     let run = plain_over(body, limits, opened);
     Pass {
         run,

@@ -9,17 +9,17 @@ ghost use Rattle.terms.specs.declared.entry.Entry.{Entry};
 ghost use Rattle.terms.specs.Entry.{isStanding, isWithdrawn};
 ghost use Rattle.register.specs.Entries.{entryStart};
 ghost use Rattle.journal.specs.Journal.{entriesTo, isFlagged};
-ghost use Rattle.journal.specs.Inner.Past.{mayHave};
 ghost use Rattle.journal.specs.Inner.Run.{runOf, plainTo};
 ghost use Rattle.journal.specs.Inner.Plain.{PlainBody, Plain, OneOn, RunsTo};
 use crate::limits::Limits;
 use crate::limits::has_letter;
 use crate::marks::mark;
+use crate::marks::mark_of;
 use crate::order::is_standing;
 use crate::order::is_withdrawn;
+use crate::past::doubt_of;
 use crate::past::later;
 use crate::past::live_marks;
-use crate::past::may_have;
 use crate::read::entry_at;
 use terms::entry::Entry;
 use terms::submission::Indicator;
@@ -37,8 +37,8 @@ pub struct Run {
     pub standing: u8,
     pub flagged: u8,
     pub newest: u8,
-    // A standing and a withdrawn read may have the same day and value.
-    pub doubt: bool,
+    // How many entries may have the day and the value of one before them, where one of the two stands and the other is withdrawn.
+    pub doubts: u8,
 }
 
 pub(crate) fn start_run() -> Run
@@ -52,7 +52,7 @@ pub(crate) fn start_run() -> Run
         standing: 0,
         flagged: 0,
         newest: 0,
-        doubt: false,
+        doubts: 0,
     }
 }
 
@@ -67,34 +67,38 @@ fn flagged_with(flagged: u8, e: Entry) -> u8
     flagged
 }
 
-// One standing read more, and whether it may clash.
-pub(crate) fn stand(run: Run, flagged: u8, doubt: bool, e: Entry) -> Run
-    requires { ⌜ (run .count < 255) × (run .standing ≤ run .count) ⌝ }
-    ensures { λ r. ⌜ (r .count ≡ run .count + 1) × ((es : List Entry) → isStanding e ≡ true → flagged ≡ cond (isFlagged e) (run .flagged + 1) (run .flagged) → doubt ≡ mayHave (run .latest) (run .marks) (e .day) (e .value) → run ≡ runOf es → r ≡ runOf (e ∷ es)) ⌝ }
+// One standing read more.
+pub(crate) fn stand(run: Run, flagged: u8, e: Entry) -> Run
+    requires { ⌜ (run .count < 255) × (run .standing ≤ run .count) × (run .doubts ≤ run .count) ⌝ }
+    ensures { λ r. ⌜ (r .count ≡ run .count + 1) × ((es : List Entry) → isStanding e ≡ true → flagged ≡ cond (isFlagged e) (run .flagged + 1) (run .flagged) → run ≡ runOf es → r ≡ runOf (e ∷ es)) ⌝ }
 {
+    let marks = live_marks(e.day, run.latest, run.marks);
     let count = run.count + 1;
     let standing = run.standing + 1;
+    let doubt = mark_of(run.marks, e.value);
+    let doubts = run.doubts + doubt;
     Run {
-        marks: run.marks,
+        marks,
         latest: run.latest,
         day: e.day,
         count,
         standing,
         flagged,
         newest: run.count,
-        doubt: doubt | run.doubt,
+        doubts,
     }
 }
 
-// One withdrawn read more. Where it is not later than the last standing one, it may clash with any of those.
+// One withdrawn read more.
 fn withdraw(run: Run, e: Entry) -> Run
-    requires { ⌜ run .count < 255 ⌝ }
+    requires { ⌜ (run .count < 255) × (run .doubts ≤ run .count) ⌝ }
     ensures { λ r. ⌜ (r .count ≡ run .count + 1) × ((es : List Entry) → isWithdrawn e ≡ true → run ≡ runOf es → r ≡ runOf (e ∷ es)) ⌝ }
 {
-    let live = live_marks(run.day, run.latest, run.marks);
-    let marks = mark(live, e.value);
+    let marks = mark(run.marks, e.value);
     let latest = later(run.latest, e.day);
     let count = run.count + 1;
+    let doubt = doubt_of(e.day, run.day);
+    let doubts = run.doubts + doubt;
     Run {
         marks,
         latest,
@@ -103,23 +107,18 @@ fn withdraw(run: Run, e: Entry) -> Run
         standing: run.standing,
         flagged: run.flagged,
         newest: run.newest,
-        doubt: (e.day <= run.day) | run.doubt,
+        doubts,
     }
 }
 
 // One entry more, of any kind.
 pub(crate) fn count(run: Run, e: Entry) -> Run
-    requires { ⌜ (run .count < 255) × (run .standing ≤ run .count) × (run .flagged ≤ run .standing) ⌝ }
+    requires { ⌜ (run .count < 255) × (run .standing ≤ run .count) × (run .flagged ≤ run .standing) × (run .doubts ≤ run .count) ⌝ }
     ensures { λ r. ⌜ ((es : List Entry) → run ≡ runOf es → r ≡ runOf (e ∷ es)) ⌝ }
 {
     if is_standing(e) {
         let flagged = flagged_with(run.flagged, e);
-        return stand(
-            run,
-            flagged,
-            may_have(run.latest, run.marks, e.day, e.value),
-            e,
-        );
+        return stand(run, flagged, e);
     }
     if is_withdrawn(e) {
         return withdraw(run, e);
@@ -133,7 +132,7 @@ pub(crate) fn count(run: Run, e: Entry) -> Run
         standing: run.standing,
         flagged: run.flagged,
         newest: run.newest,
-        doubt: run.doubt,
+        doubts: run.doubts,
     }
 }
 
@@ -166,19 +165,14 @@ fn is_plain(limits: Limits, last: u16, e: Entry) -> bool
 
 // One entry more, if it is plain; else the run as it was.
 fn run_on(run: Run, limits: Limits, e: Entry) -> Run
-    requires { ⌜ (run .count < 255) × (run .standing ≤ run .count) ⌝ }
+    requires { ⌜ (run .count < 255) × (run .standing ≤ run .count) × (run .doubts ≤ run .count) ⌝ }
     ensures { λ r. ⌜ ((r .count ≡ run .count → ⊥) → OneOn limits run e r) ⌝ }
 {
     if is_standing(e) {
         if !is_plain_body(limits, run.day, e) {
             return run;
         }
-        return stand(
-            run,
-            run.flagged,
-            may_have(run.latest, run.marks, e.day, e.value),
-            e,
-        );
+        return stand(run, run.flagged, e);
     }
     if !is_withdrawn(e) {
         return run;
@@ -229,16 +223,16 @@ fn plain_to(from: Run, k: u8, day: u16) -> Run
         standing: from.standing + (k - from.count),
         flagged: from.flagged,
         newest: one_less(k),
-        doubt: from.doubt,
+        doubts: from.doubts,
     }
 }
 
-// Past the plain standing reads that follow a standing one, where no withdrawn read is later. It carries only a count and a day.
+// Past the plain standing reads that follow a standing one, where none may clash. It carries only a count and a day.
 pub(crate) fn plain_over(body: &[u8], limits: Limits, from: Run) -> Run
     requires { ⌜ (entryStart (limits .most) ≤ length (now body)) × (from .count ≤ limits .most) × (from ≡ runOf (entriesTo (from .count) (now body))) ⌝ }
     ensures { λ r. ⌜ RunsTo (now (body .entry)) limits from r ⌝ }
 {
-    if from.day < from.latest {
+    if from.marks != 0 {
         return from;
     }
     if from.newest != one_less(from.count) {

@@ -15,10 +15,11 @@ use Rattle.journal.specs.declared.judge.Summary.{Summary}
 use Rattle.journal.specs.Journal.{Journal, journalOf, entriesTo, standing, withdrawn, kept, heldOf, isThere, newestAt}
 use Rattle.journal.specs.Sound.{any, hasRead, areInOrder, areSound, daysRise}
 use Rattle.journal.specs.Inner.Loops.{dayOf}
-use Rattle.journal.specs.Inner.Past.{latestDay, marksOf, mayHave}
+use Rattle.journal.specs.Inner.Marks.{isMarked}
+use Rattle.journal.specs.Inner.Past.{latestDay, marksOf}
 use Rattle.journal.specs.Inner.Judged.{countsOf, summaryOf, Counted}
 use Rattle.journal.proofs.Bools.{both}
-use Rattle.journal.proofs.Doubts.{none-had}
+use Rattle.journal.proofs.Doubts.{none-marked}
 use Rattle.journal.proofs.Entries.{length-entries, count-at-most}
 use Rattle.journal.proofs.InOrder.{days-rise}
 use Rattle.journal.proofs.Newest.{none-there, newest-entry, kept-all}
@@ -95,8 +96,8 @@ module _ (a : List ℕ) (t : Summary) (is : Counted a t) where
   marks-are = ap (λ (u : Summary). u .marks) (is .summary)
 
   -- after the last standing read, what is kept of the withdrawn ones is right to say no
-  pub none-kept : (day value : ℕ) → t .day < day → mayHave (t .latest) (t .marks) day value ≡ false → any (hasRead day value) (withdrawn (journalOf a .entries)) ≡ false
-  none-kept day value later unmarked = none-had day value (journalOf a .entries) rises (rw day-is at later) (rw (latest-is, marks-are) at unmarked)
+  pub none-kept : (day value : ℕ) → t .day < day → isMarked (t .marks) value ≡ false → any (hasRead day value) (withdrawn (journalOf a .entries)) ≡ false
+  none-kept day value later unmarked = none-marked day value (journalOf a .entries) rises (rw day-is at later) (rw marks-are at unmarked)
 
   pub stands-is : t .counts .standing ≡ length (standing (journalOf a .entries))
   unfolding summaryOf countsOf

@@ -13,7 +13,7 @@ use crate::recent::last;
 use crate::room::has_entry;
 use crate::room::has_room;
 use journal::judge::Summary;
-use journal::past::may_have;
+use journal::marks::is_marked;
 use register::area::Layout;
 use register::head::head_bytes;
 use terms::entry::Entry;
@@ -103,7 +103,7 @@ pub fn has_withdrawn(area: &[u8], t: Summary, day: u16, value: u32) -> bool
     if t.latest < day {
         return false;
     }
-    if (t.day < day) & !may_have(t.latest, t.marks, day, value) {
+    if (t.day < day) & !is_marked(t.marks, value) {
         return false;
     }
     let head = t.head;

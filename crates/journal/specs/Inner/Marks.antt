@@ -4,8 +4,12 @@ use Prim.Native.Nat.{ℕ, _^_, _/_, _%_}
 use lib.Bits.{bitOr}
 use lib.Dec.{eqb, leb, ltb}
 
-unfoldable pub isMarked : ℕ → ℕ → Bool
-isMarked marks v = eqb (marks / 2 ^ (v % 64) % 2) 1
+-- the bit at a value's place
+unfoldable pub markOf : ℕ → ℕ → ℕ
+markOf marks v = marks / 2 ^ (v % 64) % 2
+
+abbrev pub isMarked : ℕ → ℕ → Bool
+isMarked marks v = eqb (markOf marks v) 1
 
 unfoldable pub markOn : ℕ → ℕ → ℕ
 markOn marks v = bitOr marks (2 ^ (v % 64))

@@ -1,14 +1,14 @@
 -- What is kept of the withdrawn reads, so that a standing one is seldom compared with them.
-use mathlib.Core.Bool.{Bool, false, not, _&&_, _||_, cond}
+use mathlib.Core.Bool.{Bool, _&&_, _||_, cond}
 use mathlib.Core.List.{List, [], _∷_}
-use Prim.Native.Nat.{ℕ}
+use Prim.Native.Nat.{ℕ, _+_}
 use lib.Dec.{leb, ltb}
 use Rattle.terms.specs.declared.entry.Entry.{Entry}
 use Rattle.terms.specs.Entry.{isStanding, isWithdrawn, slotAt}
 use Rattle.journal.specs.Journal.{standing, withdrawn}
 use Rattle.journal.specs.Sound.{any, hasRead}
 use Rattle.journal.specs.Inner.Loops.{dayOf}
-use Rattle.journal.specs.Inner.Marks.{isMarked, markOn}
+use Rattle.journal.specs.Inner.Marks.{markOf, markOn}
 
 abbrev pub laterOf : ℕ → ℕ → ℕ
 laterOf a b = cond (ltb a b) b a
@@ -22,21 +22,17 @@ latestDay (w ∷ ws) = laterOf (latestDay ws) (w .day)
 abbrev pub lastDay : List Entry → ℕ
 lastDay es = dayOf (slotAt (standing es) 0)
 
--- marks that are still wanted: those of reads that are later than the last standing one. Standing days rise, so the others can't be met again.
+-- marks that are still wanted from a day on. Standing days rise, so none is once no withdrawn read is later than the last standing one.
 unfoldable pub liveMarks : ℕ → ℕ → ℕ → ℕ
 liveMarks day latest marks = cond (ltb day latest) marks 0
 
--- a mark for each value of a withdrawn read. They start anew where all of those before are past.
+-- a mark for each value of a withdrawn read that a later standing one may have
 unfoldable pub marksOf : List Entry → ℕ
 marksOf [] = 0
 marksOf (e ∷ es) =
-    cond (isWithdrawn e)
-    (markOn (liveMarks (lastDay es) (latestDay (withdrawn es)) (marksOf es)) (e .value))
-    (marksOf es)
-
--- a withdrawn read may have this day and value, which is after every standing one
-unfoldable pub mayHave : ℕ → ℕ → ℕ → ℕ → Bool
-mayHave latest marks day value = not (ltb latest day) && isMarked marks value
+    cond (isStanding e)
+    (liveMarks (e .day) (latestDay (withdrawn es)) (marksOf es))
+    (cond (isWithdrawn e) (markOn (marksOf es) (e .value)) (marksOf es))
 
 -- an entry has the day and the value of a withdrawn one before it, if it stands, and of a standing one, if it is withdrawn
 unfoldable pub clashes : Entry → List Entry → Bool
@@ -44,13 +40,14 @@ clashes e es =
     (isStanding e && any (hasRead (e .day) (e .value)) (withdrawn es))
     || (isWithdrawn e && any (hasRead (e .day) (e .value)) (standing es))
 
--- it may, by what is kept: never no wrongly, while standing days rise
-unfoldable pub mayClash : Entry → List Entry → Bool
-mayClash e es =
-    (isStanding e && mayHave (latestDay (withdrawn es)) (marksOf es) (e .day) (e .value))
-    || (isWithdrawn e && leb (e .day) (lastDay es))
+-- 1 where it may, by what is kept, and else 0: never 0 wrongly, while standing days rise
+unfoldable pub doubtOf : Entry → List Entry → ℕ
+doubtOf e es =
+    cond (isStanding e)
+    (markOf (marksOf es) (e .value))
+    (cond (isWithdrawn e && leb (e .day) (lastDay es)) 1 0)
 
--- one of the entries may
-unfoldable pub mayHaveClash : List Entry → Bool
-mayHaveClash [] = false
-mayHaveClash (e ∷ es) = mayClash e es || mayHaveClash es
+-- how many of the entries may
+unfoldable pub doubtsIn : List Entry → ℕ
+doubtsIn [] = 0
+doubtsIn (e ∷ es) = doubtsIn es + doubtOf e es

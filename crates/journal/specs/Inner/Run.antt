@@ -6,7 +6,7 @@ use Rattle.terms.specs.declared.entry.Entry.{Entry}
 use Rattle.terms.specs.Entry.{those}
 use Rattle.journal.specs.declared.run.Run.{Run}
 use Rattle.journal.specs.Journal.{standing, withdrawn, isFlagged, newestAt}
-use Rattle.journal.specs.Inner.Past.{latestDay, lastDay, marksOf, mayHaveClash}
+use Rattle.journal.specs.Inner.Past.{latestDay, lastDay, marksOf, doubtsIn}
 
 unfoldable pub runOf : List Entry → Run
 runOf es =
@@ -18,7 +18,7 @@ runOf es =
       standing = length (standing es);
       flagged = length (those isFlagged (standing es));
       newest = newestAt es;
-      doubt = mayHaveClash es;
+      doubts = doubtsIn es;
     }
 
 -- a run after plain standing reads alone, to a count and a day
@@ -32,5 +32,5 @@ plainTo from k day =
       standing = from .standing + (k - from .count);
       flagged = from .flagged;
       newest = k - 1;
-      doubt = from .doubt;
+      doubts = from .doubts;
     }

@@ -1,9 +1,8 @@
 -- Where nothing may clash, nothing does.
 use mathlib.Core.Path.{_≡_, sym, _∙_}
-use borrow.Author.Tests.{not-true}
 use Rattle.journal.proofs.InOrder.{days-rise}
 use Rattle.journal.proofs.Doubts.{undoubted}
-use Rattle.journal.proofs.Runs.{run-doubt, run-day}
+use Rattle.journal.proofs.Runs.{run-doubts, run-day}
 use borrow.Author.Needs.{needs}
 use Rattle.journal.proofs.apart.is_apart.Statement.{statement}
 use Rattle.journal.proofs.apart.is_apart.Tie as tie
@@ -11,7 +10,7 @@ use Rattle.journal.proofs.apart.is_apart.Tie as tie
 returns : tie.Need-returns
 returns c =
     let start = c .before .before .before in
-    sym (undoubted (start .args .head) _ (start .pre .2) (sym (run-doubt _ (start .pre .1)) ∙ not-true _ (c .if1 .taken)))
+    sym (undoubted (start .args .head) _ (start .pre .2) (sym (run-doubts _ (start .pre .1)) ∙ c .if1 .taken))
 
 are-apart-requires : tie.Need-are-apart-requires
 are-apart-requires c κs =

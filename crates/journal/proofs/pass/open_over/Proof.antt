@@ -6,7 +6,7 @@ use native.Mathlib.Omega.{arith}
 use borrow.Author.Tests.{not-false}
 use Rattle.journal.specs.Journal.{isFlagged}
 use Rattle.journal.specs.Inner.Run.{runOf}
-use Rattle.journal.proofs.Passes.{start-zero, start-free, starts-none, first-run, starts-first}
+use Rattle.journal.proofs.Passes.{start-zero, starts-none, first-run, starts-first}
 use borrow.Author.Needs.{needs}
 use Rattle.journal.proofs.pass.open_over.Statement.{statement}
 use Rattle.journal.proofs.pass.open_over.Tie as tie
@@ -29,7 +29,7 @@ returns-2 c = starts-none _ _ _ (c .before .before .before .before .before .star
 stand-requires : tie.Need-stand-requires
 stand-requires c κs =
     let zero = start-zero (c .before .before .before .before .before .start-pass .ensures .0) in
-    (omega (arith, zero .0), omega (arith, zero .1))
+    (omega (arith, zero .0), omega (arith, zero .1), omega (arith, zero .3))
 
 module _ (c : tie.After-stand) where
   abbrev first : tie.After-is-first
@@ -48,7 +48,7 @@ module _ (c : tie.After-stand) where
   unfolding isFlagged
   opened =
       let is = first .is-first .ensures (not-false _ (c .before .if2 .left)) in
-      c .stand .ensures .1 [] (is .stands) (rw (is .flag) (sym (start-zero none .2))) (start-free _ _ none) none
+      c .stand .ensures .1 [] (is .stands) (rw (is .flag) (sym (start-zero none .2))) none
 
 plain-over-requires : tie.Need-plain-over-requires
 plain-over-requires c κs =

@@ -87,7 +87,7 @@ advance-requires : tie.Need-advance-requires Inv-loop μ-loop
 advance-requires c κs =
     let p = loop c in
     let small = run-small (p .loop .pass .run) _ _ (pass-run _ _ (passed p .same)) in
-    (omega (arith, p .loop .inv .0, c .before .before .before .if1 .taken), small .1, small .2)
+    (omega (arith, p .loop .inv .0, c .before .before .before .if1 .taken), small .1, small .2, small .3)
 
 disordered-requires : tie.Need-disordered-requires Inv-loop μ-loop
 disordered-requires c κs = search needs

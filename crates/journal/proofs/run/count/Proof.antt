@@ -1,5 +1,7 @@
 -- A standing entry, a withdrawn one, and one that changes only the count.
-use mathlib.Core.Path.{sym, _∙_}
+use mathlib.Core.Path.{_≡_, sym, _∙_}
+use Prim.Native.Nat.{_+_}
+use native.Mathlib.Omega.{arith}
 use Rattle.journal.proofs.Runs.{run-more}
 use borrow.Author.Needs.{needs}
 use Rattle.journal.proofs.run.count.Statement.{statement}
@@ -11,18 +13,14 @@ is-standing-requires c κs = search needs
 flagged-with-requires : tie.Need-flagged-with-requires
 flagged-with-requires c κs = search needs
 
-may-have-requires : tie.Need-may-have-requires
-may-have-requires c κs = search needs
-
 stand-requires : tie.Need-stand-requires
 stand-requires c κs = search needs
 
 returns : tie.Need-returns
 returns c =
-    let may = c .before in
-    let flagged = may .before in
+    let flagged = c .before in
     let s = flagged .before .before in
-    λ es h. c .stand .ensures .1 es (sym (s .is-standing .ensures) ∙ flagged .before .if1 .taken) (flagged .flagged-with .ensures) (may .may-have .ensures) h
+    λ es h. c .stand .ensures .1 es (sym (s .is-standing .ensures) ∙ flagged .before .if1 .taken) (flagged .flagged-with .ensures) h
 
 is-withdrawn-requires : tie.Need-is-withdrawn-requires
 is-withdrawn-requires c κs = search needs
@@ -42,12 +40,15 @@ returns-3 : tie.Need-returns-3
 returns-3 c =
     let w = c .before .before in
     let s = w .before .before in
+    let doubts = s .before .args .run .doubts in
+    let same : doubts + 0 ≡ doubts = omega arith in
     λ es h.
     rw (
       run-more,
       ← h,
       sym (s .is-standing .ensures) ∙ w .before .if1 .left,
       sym (w .is-withdrawn .ensures) ∙ c .before .if2 .left,
+      same,
     )
 
 pub count-spec : {M : Type 1} → statement M
@@ -56,7 +57,6 @@ count-spec =
     (tie.spec
     is-standing-requires
     flagged-with-requires
-    may-have-requires
     stand-requires
     returns
     is-withdrawn-requires

@@ -11,7 +11,7 @@ use Rattle.journal.proofs.run.plain_over.Statement.{statement}
 use Rattle.journal.proofs.run.plain_over.Tie as tie
 
 abbrev Inv-loop : tie.InvT-loop
-Inv-loop body limits from day₀ k₀ day k = (from .count ≤ k) × (k ≤ limits .most) × (from .latest ≤ day) × RunsTo body limits from (plainTo from k day)
+Inv-loop body limits from day₀ k₀ day k = (from .count ≤ k) × (k ≤ limits .most) × RunsTo body limits from (plainTo from k day)
 
 abbrev μ-loop : tie.MeasureT-loop
 μ-loop body limits from day₀ k₀ day k = limits .most - k
@@ -31,7 +31,11 @@ loop-holds c =
     let early = less .before in
     let start = early .before .before .before in
     let newest = rw (less .one-less .ensures) at (c .if2 .left) in
-    (omega arith, start .pre .1, omega (arith, early .if1 .left), rw (plain-start (start .args .from) newest) (runs-none _ _ _ (start .pre .2) (start .pre .1)))
+    (omega arith, start .pre .1, rw (plain-start (start .args .from) newest) (runs-none _ _ _ (start .pre .2) (start .pre .1)))
+
+-- nothing has a mark
+none : (c : tie.At-loop Inv-loop μ-loop) → c .before .before .before .before .before .before .before .args .from .marks ≡ 0
+none c = c .before .before .before .before .if1 .left
 
 entry-at-requires : tie.Need-entry-at-requires Inv-loop μ-loop
 entry-at-requires c κs = omega (arith, c .before .before .before .before .before .before .before .before .before .pre .0, c .if3 .taken)
@@ -46,7 +50,7 @@ plain-to-requires c κs =
     (loop .loop .inv .0, run-small (start .args .from) _ _ (start .pre .2) .1)
 
 returns-3 : tie.Need-returns-3 Inv-loop μ-loop
-returns-3 c = rw (c .plain-to .ensures) (c .before .before .before .before .before .before .loop .inv .3)
+returns-3 c = rw (c .plain-to .ensures) (c .before .before .before .before .before .before .loop .inv .2)
 
 add-k : tie.Need-add-k Inv-loop μ-loop
 add-k c = omega (arith, c .before .before .before .if3 .taken)
@@ -65,8 +69,7 @@ loop-again c =
     let is = plain .is-plain .ensures (not-false _ (c .if4 .left)) in (
       omega (arith, inv .0),
       omega (arith, read .before .if3 .taken),
-      omega (arith, inv .2, is .body .later),
-      runs-one (inv .3) (read .before .if3 .taken) (read .entry-at .ensures) (plain-one from (loop .loop .k) (loop .loop .day) (inv .0) (inv .2) is),
+      runs-one (inv .2) (read .before .if3 .taken) (read .entry-at .ensures) (plain-one from (loop .loop .k) (loop .loop .day) (inv .0) (none loop) is),
     )
 
 plain-to-requires-2 : tie.Need-plain-to-requires-2 Inv-loop μ-loop
@@ -76,7 +79,7 @@ plain-to-requires-2 c κs =
     (loop .loop .inv .0, run-small (start .args .from) _ _ (start .pre .2) .1)
 
 returns-4 : tie.Need-returns-4 Inv-loop μ-loop
-returns-4 c = rw (c .plain-to2 .ensures) (c .before .before .before .loop .inv .3)
+returns-4 c = rw (c .plain-to2 .ensures) (c .before .before .before .loop .inv .2)
 
 pub plain-over-spec : {M : Type 1} → statement M
 plain-over-spec =

@@ -16,20 +16,16 @@ is-plain-body-requires c κs = search needs
 returns : tie.Need-returns
 returns c = λ n. absurd (n refl)
 
-may-have-requires : tie.Need-may-have-requires
-may-have-requires c κs = search needs
-
 stand-requires : tie.Need-stand-requires
 stand-requires c κs = search needs
 
 returns-2 : tie.Need-returns-2
 unfolding isFlagged
 returns-2 c =
-    let may = c .before in
-    let body = may .before .before in
+    let body = c .before .before in
     let s = body .before .before in
     let k = sym (s .is-standing .ensures) ∙ body .before .if1 .taken in
-    let plain = body .is-plain-body .ensures (not-false _ (may .before .if2 .left)) in
+    let plain = body .is-plain-body .ensures (not-false _ (c .before .if2 .left)) in
     λ n.
     stand-one
     (s .before .args .run)
@@ -37,7 +33,7 @@ returns-2 c =
     _
     plain
     (c .stand .ensures .0)
-    (λ es h. c .stand .ensures .1 es k (rw (plain .flag)) (may .may-have .ensures) h)
+    (λ es h. c .stand .ensures .1 es k (rw (plain .flag)) h)
     k
 
 is-withdrawn-requires : tie.Need-is-withdrawn-requires
@@ -78,7 +74,6 @@ run-on-spec =
     is-standing-requires
     is-plain-body-requires
     returns
-    may-have-requires
     stand-requires
     returns-2
     is-withdrawn-requires

@@ -24,7 +24,7 @@ run-on-requires : tie.Need-run-on-requires Inv-loop μ-loop
 run-on-requires c κs =
     let loop = c .before .before .before .before in
     let small = run-small (loop .loop .run) _ _ (loop .loop .inv .run-is) in
-    (omega (arith, c .before .if1 .taken), small .1)
+    (omega (arith, c .before .if1 .taken), small .1, small .3)
 
 returns : tie.Need-returns Inv-loop μ-loop
 returns c = c .before .before .before .before .before .before .before .before .loop .inv

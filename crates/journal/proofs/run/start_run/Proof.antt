@@ -2,14 +2,14 @@ use mathlib.Core.Path.{refl}
 use Rattle.terms.specs.Entry.{those, slotAt}
 use Rattle.journal.specs.Journal.{newestAt}
 use Rattle.journal.specs.Inner.Loops.{dayOf}
-use Rattle.journal.specs.Inner.Past.{latestDay, marksOf, mayHaveClash}
+use Rattle.journal.specs.Inner.Past.{latestDay, marksOf, doubtsIn}
 use Rattle.journal.specs.Inner.Run.{runOf}
 use borrow.Author.Needs.{needs}
 use Rattle.journal.proofs.run.start_run.Statement.{statement}
 use Rattle.journal.proofs.run.start_run.Tie as tie
 
 returns : tie.Need-returns
-unfolding runOf those slotAt newestAt dayOf latestDay marksOf mayHaveClash
+unfolding runOf those slotAt newestAt dayOf latestDay marksOf doubtsIn
 returns c = refl
 
 pub start-run-spec : {M : Type 1} → statement M

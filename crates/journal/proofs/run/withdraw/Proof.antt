@@ -1,13 +1,11 @@
 -- What one more entry changes is `run-more`.
 use mathlib.Core.Path.{refl}
+use native.Mathlib.Omega.{arith}
 use Rattle.journal.proofs.Clashes.{withdrawn-unstanding}
 use Rattle.journal.proofs.Runs.{run-more}
 use borrow.Author.Needs.{needs}
 use Rattle.journal.proofs.run.withdraw.Statement.{statement}
 use Rattle.journal.proofs.run.withdraw.Tie as tie
-
-live-marks-requires : tie.Need-live-marks-requires
-live-marks-requires c κs = search needs
 
 mark-requires : tie.Need-mark-requires
 mark-requires c κs = search needs
@@ -18,11 +16,23 @@ later-requires c κs = search needs
 add-count : tie.Need-add-count
 add-count c = search needs
 
+doubt-of-requires : tie.Need-doubt-of-requires
+doubt-of-requires c κs = search needs
+
+add-doubts : tie.Need-add-doubts
+add-doubts c =
+    let doubt = c .before in
+    let start = doubt .before .before .before .before in
+    omega (arith, doubt .doubt-of .ensures .0, start .pre .0, start .pre .1)
+
 returns : tie.Need-returns
 returns c =
-    let late = c .before .before .before .before in
+    let doubt = c .before in
+    let late = doubt .before .before in
     let mark = late .before in
-    (refl, λ es w h. rw (run-more, ← h, w, withdrawn-unstanding _ w, mark .mark .ensures, mark .before .live-marks .ensures, late .later .ensures))
+    (refl, λ es w h. rw (run-more, ← h, w, withdrawn-unstanding _ w, mark .mark .ensures, late .later .ensures, doubt .doubt-of .ensures .1))
 
 pub withdraw-spec : {M : Type 1} → statement M
-withdraw-spec = tie.close (tie.spec live-marks-requires mark-requires later-requires add-count returns)
+withdraw-spec =
+    tie.close
+    (tie.spec mark-requires later-requires add-count doubt-of-requires add-doubts returns)

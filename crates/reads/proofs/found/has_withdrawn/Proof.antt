@@ -17,14 +17,14 @@ returns c =
     let t = c .before .before .before .args .t in
     λ is. sym (none-as-late _ _ _ (omega (arith, latest-is _ t is, c .if1 .taken)))
 
-may-have-requires : tie.Need-may-have-requires
-may-have-requires c κs = search needs
+is-marked-requires : tie.Need-is-marked-requires
+is-marked-requires c κs = search needs
 
 -- after the last standing read, and not marked
 returns-2 : tie.Need-returns-2
 returns-2 c =
     let both-are = both _ _ (c .if2 .taken) in
-    λ is. sym (none-kept _ (c .before .before .before .before .before .before .args .t) is _ _ (ltb-true _ _ (both-are .0)) (sym (c .before .may-have .ensures) ∙ not-true _ (both-are .1)))
+    λ is. sym (none-kept _ (c .before .before .before .before .before .before .args .t) is _ _ (ltb-true _ _ (both-are .0)) (sym (c .before .is-marked .ensures) ∙ not-true _ (both-are .1)))
 
 has-room-requires : tie.Need-has-room-requires
 has-room-requires c κs = search needs
@@ -64,7 +64,7 @@ has-withdrawn-spec =
     tie.close
     (tie.spec
     returns
-    may-have-requires
+    is-marked-requires
     returns-2
     has-room-requires
     returns-3
