@@ -1,12 +1,3 @@
 pub mod Bools
 pub mod Entries
 pub mod InOrder
-pub mod Bits
-pub mod Clashes
-pub mod Doubts
-pub mod Halved
-pub mod Runs
-pub mod Passes
-pub mod Newest
-pub mod Verdicts
-pub mod Numbers

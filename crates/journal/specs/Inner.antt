@@ -1,10 +1,3 @@
 -- What only proofs and inner contracts need: how the loops over a body go about it.
 pub mod Follow
 pub mod Loops
-pub mod Marks
-pub mod Past
-pub mod Run
-pub mod Plain
-pub mod Pass
-pub mod Halving
-pub mod Judged

@@ -1,13 +1,4 @@
-// The journal: what an area's bytes mean, for any bytes whatever.
-mod apart;
-mod halving;
-pub mod judge;
-pub mod limits;
-pub mod marks;
-mod order;
-pub mod pass;
-mod past;
+// The journal: what an area's bytes mean, and whether an entry may follow those before it.
+pub mod order;
 pub mod plate;
-mod read;
-pub mod run;
 pub mod slot;

@@ -13,31 +13,31 @@ use terms::letter::is_known;
 use terms::letter::is_opening;
 use terms::submission::Indicator;
 
-pub(crate) fn is_standing(e: Entry) -> bool
+pub fn is_standing(e: Entry) -> bool
     ensures { λ r. ⌜ r ≡ isStanding e ⌝ }
 {
     e.kind == Kind::STANDING
 }
 
-pub(crate) fn is_withdrawn(e: Entry) -> bool
+pub fn is_withdrawn(e: Entry) -> bool
     ensures { λ r. ⌜ r ≡ isWithdrawn e ⌝ }
 {
     e.kind == Kind::WITHDRAWN
 }
 
-pub(crate) fn is_held(e: Entry) -> bool
+pub fn is_held(e: Entry) -> bool
     ensures { λ r. ⌜ r ≡ isHeld e ⌝ }
 {
     e.kind == Kind::HELD
 }
 
-pub(crate) fn is_final(e: Entry) -> bool
+pub fn is_final(e: Entry) -> bool
     ensures { λ r. ⌜ r ≡ isFinalRead e ⌝ }
 {
     e.letter == Letter::FINAL
 }
 
-pub(crate) fn has_read(day: u16, value: u32, e: Entry) -> bool
+pub fn has_read(day: u16, value: u32, e: Entry) -> bool
     ensures { λ r. ⌜ r ≡ hasRead day value e ⌝ }
 {
     (e.day == day) & (e.value == value)
@@ -80,14 +80,7 @@ fn may_stand(e: Entry, stands: bool, last: u16) -> bool
 }
 
 // Most entries stand, and the clause about held reads does not concern them.
-pub(crate) fn may_follow(
-    limit: u32,
-    e: Entry,
-    stands: bool,
-    last: u16,
-    held: bool,
-    ended: bool,
-) -> bool
+pub fn may_follow(limit: u32, e: Entry, stands: bool, last: u16, held: bool, ended: bool) -> bool
     ensures { λ r. ⌜ ((head : Head) → limit ≡ tenTo (head .dials) → r ≡ followsBy head e stands last held ended) ⌝ }
 {
     if held {

@@ -6,7 +6,7 @@ use lib.Dec.{eqb}
 use Rattle.terms.specs.Number.{accepted}
 use Rattle.terms.specs.Rule.{firstBroken}
 use Rattle.journal.specs.Journal.{journalOf}
-use Rattle.journal.specs.Inner.Judged.{summaryOf}
+use Rattle.judge.specs.Inner.Judged.{summaryOf}
 use Rattle.calls.specs.declared.call.Reply.the-variants.{Answered}
 use Rattle.calls.specs.Checks.{withdrawChecks}
 use Rattle.calls.specs.Calls.{withdrawIn}

@@ -13,12 +13,12 @@ use Rattle.register.specs.Area.{allZero}
 use Rattle.register.specs.declared.head.Head.{Head}
 use Rattle.register.specs.Entries.{entryStart}
 use Rattle.register.specs.Head.{headOf, bodyOf}
-use Rattle.journal.specs.declared.judge.Summary.{Summary}
+use Rattle.judge.specs.declared.area.Summary.{Summary}
 use Rattle.journal.specs.Journal.{journalOf, entryCount, kept, heldOf, isThere}
 use Rattle.journal.specs.Sound.{isHead, areInOrder, areSound, isSound}
-use Rattle.journal.specs.Inner.Judged.{countsOf, summaryOf, Counted}
+use Rattle.judge.specs.Inner.Judged.{countsOf, summaryOf, Counted}
 use Rattle.journal.proofs.Bools.{both}
-use Rattle.journal.proofs.Newest.{kept-all}
+use Rattle.judge.proofs.Newest.{kept-all}
 
 by-kept : (head : Head) (es : List Entry) → areInOrder head es ≡ true → not (eqb (kept es) (length es)) ≡ isThere (heldOf es)
 unfolding heldOf isThere those

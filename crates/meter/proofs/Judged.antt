@@ -7,13 +7,13 @@ use lib.ListN.{length}
 use Rattle.terms.specs.Number.{accepted, noMeter, damaged}
 use Rattle.terms.specs.Rule.{Rule, firstBroken}
 use Rattle.register.specs.Area.{areaBytes, allZero}
-use Rattle.journal.specs.declared.judge.Summary.{Summary}
-use Rattle.journal.specs.declared.judge.Judged.{Judged}
-use Rattle.journal.specs.declared.judge.Judged.the-variants.{Zero, Damaged, Sound}
+use Rattle.judge.specs.declared.area.Summary.{Summary}
+use Rattle.judge.specs.declared.area.Judged.{Judged}
+use Rattle.judge.specs.declared.area.Judged.the-variants.{Zero, Damaged, Sound}
 use Rattle.journal.specs.Journal.{Journal, journalOf}
 use Rattle.journal.specs.Numbers.{areaRules}
 use Rattle.journal.specs.Sound.{isSound}
-use Rattle.journal.specs.Inner.Judged.{summaryOf, judged, Counted}
+use Rattle.judge.specs.Inner.Judged.{summaryOf, judged, Counted}
 use Rattle.calls.specs.Checks.{withJournal}
 
 -- by the two tests

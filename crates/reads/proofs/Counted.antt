@@ -11,19 +11,19 @@ use Rattle.terms.specs.Entry.{isHeld, slotAt}
 use Rattle.register.specs.declared.head.Head.{Head}
 use Rattle.register.specs.Entries.{entryStart, entryAt}
 use Rattle.register.specs.Head.{headOf, headBytes, mostEntries, bodyOf}
-use Rattle.journal.specs.declared.judge.Summary.{Summary}
+use Rattle.judge.specs.declared.area.Summary.{Summary}
 use Rattle.journal.specs.Journal.{Journal, journalOf, entriesTo, standing, withdrawn, kept, heldOf, isThere, newestAt}
 use Rattle.journal.specs.Sound.{any, hasRead, areInOrder, areSound, daysRise}
 use Rattle.journal.specs.Inner.Loops.{dayOf}
-use Rattle.journal.specs.Inner.Marks.{isMarked}
-use Rattle.journal.specs.Inner.Past.{latestDay, marksOf}
-use Rattle.journal.specs.Inner.Judged.{countsOf, summaryOf, Counted}
+use Rattle.judge.specs.Inner.Marks.{isMarked}
+use Rattle.judge.specs.Inner.Past.{latestDay, marksOf}
+use Rattle.judge.specs.Inner.Judged.{countsOf, summaryOf, Counted}
 use Rattle.journal.proofs.Bools.{both}
-use Rattle.journal.proofs.Doubts.{none-marked}
+use Rattle.judge.proofs.Doubts.{none-marked}
 use Rattle.journal.proofs.Entries.{length-entries, count-at-most}
 use Rattle.journal.proofs.InOrder.{days-rise}
-use Rattle.journal.proofs.Newest.{none-there, newest-entry, kept-all}
-use Rattle.journal.proofs.Verdicts.{head-is, entries-are, journal-is, body-sound}
+use Rattle.judge.proofs.Newest.{none-there, newest-entry, kept-all}
+use Rattle.judge.proofs.Verdicts.{head-is, entries-are, journal-is, body-sound}
 use Rattle.reads.specs.Inner.Room.{hasRoom, slotIn}
 use Rattle.reads.proofs.Lent.{room-is, lent-is}
 

@@ -15,7 +15,7 @@ use Rattle.journal.specs.Journal.{standing, slotIf, onDay}
 use Rattle.journal.specs.Sound.{any, hasRead, daysRise, isLater}
 use Rattle.journal.specs.Inner.Loops.{dayOf}
 use Rattle.journal.proofs.Bools.{both, or-none}
-use Rattle.journal.proofs.Clashes.{none-stands}
+use Rattle.judge.proofs.Clashes.{none-stands}
 
 -- ---- the reads before one
 pub rise-before : (s : Entry) (ss : List Entry) → daysRise (s ∷ ss) ≡ true → daysRise ss ≡ true

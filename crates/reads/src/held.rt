@@ -1,9 +1,9 @@
 // The held read.
 ghost use mathlib.Core.Path.{_≡_};
 ghost use Rattle.journal.specs.Journal.{journalOf, heldOf};
-ghost use Rattle.journal.specs.Inner.Judged.{Counted};
+ghost use Rattle.judge.specs.Inner.Judged.{Counted};
 use crate::room::entry_in;
-use journal::judge::Summary;
+use judge::area::Summary;
 use terms::entry::Slot;
 
 // All entries but a held one are kept, and a held one is the last.

@@ -15,13 +15,13 @@ use Rattle.rules.specs.Indicator.{indicatedNumber, indicatedFlag}
 use Rattle.rules.specs.Volume.{advanceOver, volumeNumber}
 use Rattle.register.specs.Area.{areaBytes, allZero}
 use Rattle.register.specs.Head.{offsetAfter}
-use Rattle.journal.specs.declared.judge.Judged.{Judged}
-use Rattle.journal.specs.declared.judge.Judged.the-variants.{Zero, Damaged, Sound}
+use Rattle.judge.specs.declared.area.Judged.{Judged}
+use Rattle.judge.specs.declared.area.Judged.the-variants.{Zero, Damaged, Sound}
 use Rattle.journal.specs.Journal.{Journal, journalOf, standing, kept}
 use Rattle.journal.specs.Numbers.{areaRules}
 use Rattle.journal.specs.Sound.{isSound}
-use Rattle.journal.specs.Inner.Judged.{summaryOf}
-use Rattle.journal.specs.Inner.Judged as found
+use Rattle.judge.specs.Inner.Judged.{summaryOf}
+use Rattle.judge.specs.Inner.Judged as found
 use Rattle.calls.specs.Calls.{isVolumeQuery, submittedAdvance}
 use Rattle.calls.specs.Checks.{isDenied, isUnclear, indicatedIn, contentRules, sameDayRules, orderRules, indicatorRules, volumeRules, submitRules, submitChecks}
 use Rattle.submit.specs.declared.decide.Decision.{Decision}

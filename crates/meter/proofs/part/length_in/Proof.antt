@@ -3,7 +3,7 @@ use mathlib.Core.Path.{sym, _∙_}
 use mathlib.Core.List.{[]}
 use Rattle.register.specs.Head.{entryOffset}
 use Rattle.journal.specs.Journal.{journalOf}
-use Rattle.journal.specs.Inner.Judged.{summaryOf}
+use Rattle.judge.specs.Inner.Judged.{summaryOf}
 use Rattle.journal.proofs.Entries.{length-entries}
 use Rattle.calls.specs.Checks.{reportChecks}
 use Rattle.calls.specs.Calls.{lengthIn}

@@ -4,7 +4,7 @@ use mathlib.Core.List.{[]}
 use borrow.Author.Needs.{sfits-of}
 use mir.Syntax.{w64}
 use mir.ValLaws.{toZ-ofZ}
-use Rattle.journal.specs.Inner.Judged.{countsOf, summaryOf}
+use Rattle.judge.specs.Inner.Judged.{countsOf, summaryOf}
 use Rattle.calls.specs.Checks.{reportChecks}
 use Rattle.calls.specs.Calls.{flaggedOf, reportOf, reportIn}
 use Rattle.meter.proofs.Judged.{zero-number, damaged-number, sound-number}

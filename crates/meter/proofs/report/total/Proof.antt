@@ -9,9 +9,9 @@ use Rattle.arithmetic.specs.Advance.{advanceOf}
 use Rattle.terms.specs.declared.entry.Entry.{Entry}
 use Rattle.terms.specs.Entry.{slotAt}
 use Rattle.rules.proofs.Laws.{advance-word}
-use Rattle.journal.specs.declared.judge.Summary.{Summary}
+use Rattle.judge.specs.declared.area.Summary.{Summary}
 use Rattle.journal.specs.Journal.{Journal, standing, firstValue}
-use Rattle.journal.specs.Inner.Judged.{countsOf, valueOf, summaryOf}
+use Rattle.judge.specs.Inner.Judged.{countsOf, valueOf, summaryOf}
 use Rattle.calls.specs.Calls.{flaggedOf, totalOf}
 use borrow.Author.Needs.{needs}
 use Rattle.meter.proofs.report.total.Statement.{statement}

@@ -3,7 +3,7 @@ use mathlib.Core.Path.{_≡_, sym, ap, _∙_}
 use borrow.Author.Tests.{ne-eqb}
 use Rattle.terms.specs.Rule.{firstBroken}
 use Rattle.journal.specs.Journal.{journalOf}
-use Rattle.journal.specs.Inner.Judged.{Counted}
+use Rattle.judge.specs.Inner.Judged.{Counted}
 use Rattle.meter.specs.declared.withdraw.Decided.the-variants.{Taken}
 use Rattle.calls.specs.Checks.{withdrawRules, withdrawChecks}
 use Rattle.meter.specs.Inner.Withdrawal.{withdrawDecided}

@@ -12,7 +12,7 @@ use Rattle.terms.specs.Entry.{slotAt}
 use Rattle.journal.specs.Journal.{standing}
 use Rattle.journal.specs.Sound.{hasRead}
 use Rattle.journal.specs.Inner.Loops.{dayOf}
-use Rattle.journal.specs.Inner.Judged.{countsOf, valueOf, summaryOf}
+use Rattle.judge.specs.Inner.Judged.{countsOf, valueOf, summaryOf}
 use Rattle.calls.specs.Checks.{isNotLast}
 use Rattle.meter.proofs.withdraw.is_not_last.Statement.{statement}
 use Rattle.meter.proofs.withdraw.is_not_last.Tie as tie

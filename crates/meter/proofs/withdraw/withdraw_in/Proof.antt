@@ -14,9 +14,9 @@ use Rattle.terms.specs.Rule.{firstBroken}
 use Rattle.terms.specs.Entry.{slotAt}
 use Rattle.register.specs.Area.{areaBytes}
 use Rattle.register.specs.Head.{offsetAfter, entryOffset}
-use Rattle.journal.specs.declared.judge.Summary.{Summary}
+use Rattle.judge.specs.declared.area.Summary.{Summary}
 use Rattle.journal.specs.Journal.{journalOf, standing, heldOf, isThere}
-use Rattle.journal.specs.Inner.Judged.{countsOf, summaryOf, Counted}
+use Rattle.judge.specs.Inner.Judged.{countsOf, summaryOf, Counted}
 use Rattle.calls.specs.declared.call.Reply.the-variants.{Answered}
 use Rattle.calls.specs.Checks.{withdrawRules, withdrawChecks}
 use Rattle.calls.specs.Calls.{acted, withdrawnAnswer, withdrawnBytes, withdrawIn}

@@ -4,7 +4,7 @@ use mathlib.Core.Bool.{true}
 use native.Mathlib.Omega.{arith}
 use borrow.Author.Tests.{ltb-true, not-true, not-false}
 use Rattle.journal.proofs.Bools.{false-is, both}
-use Rattle.journal.proofs.Clashes.{none-as-late}
+use Rattle.judge.proofs.Clashes.{none-as-late}
 use Rattle.reads.specs.Inner.Room.{hasRoom}
 use Rattle.reads.proofs.Lent.{lent-room, start-room}
 use Rattle.reads.proofs.Counted.{latest-is, none-kept, all-room, lent-entries}

@@ -9,7 +9,7 @@ use Rattle.terms.specs.declared.entry.Entry.{Entry}
 use Rattle.terms.specs.Entry.{slotAt}
 use Rattle.journal.specs.Journal.{journalOf, standing, onDay}
 use Rattle.journal.specs.Inner.Loops.{dayOf}
-use Rattle.journal.specs.Inner.Judged.{Counted}
+use Rattle.judge.specs.Inner.Judged.{Counted}
 use Rattle.journal.proofs.Bools.{false-is}
 use Rattle.reads.specs.Inner.Room.{hasRoom}
 use Rattle.reads.proofs.Lent.{lent-room, start-room}

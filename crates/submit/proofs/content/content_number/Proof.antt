@@ -1,9 +1,9 @@
 -- The first test that holds decides, in the order of the group.
 use mathlib.Core.Path.{_≡_, sym, ap, _∙_}
 use mathlib.Core.Bool.{false}
-use Rattle.journal.specs.declared.judge.Summary.{Summary}
+use Rattle.judge.specs.declared.area.Summary.{Summary}
 use Rattle.journal.specs.Journal.{journalOf}
-use Rattle.journal.specs.Inner.Judged.{summaryOf}
+use Rattle.judge.specs.Inner.Judged.{summaryOf}
 use Rattle.calls.specs.Checks.{isMissing, isBadContent, isBadDate, isWithdrawnRead, contentRules}
 use borrow.Author.Needs.{needs}
 use Rattle.submit.proofs.content.content_number.Statement.{statement}

@@ -1,7 +1,7 @@
 -- What the area is judged to be decides, and a sound journal is asked the rules.
 use mathlib.Core.Path.{_≡_, sym, _∙_}
-use Rattle.journal.specs.declared.judge.Judged.{Judged}
-use Rattle.journal.proofs.Verdicts.{judged-counted}
+use Rattle.judge.specs.declared.area.Judged.{Judged}
+use Rattle.judge.proofs.Verdicts.{judged-counted}
 use Rattle.submit.proofs.Stages.{Means, means}
 use borrow.Author.Needs.{needs}
 use Rattle.submit.proofs.decide.decide.Statement.{statement}

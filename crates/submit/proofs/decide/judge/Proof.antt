@@ -2,7 +2,7 @@
 use mathlib.Core.Path.{_≡_, sym, _∙_}
 use Rattle.terms.specs.Entry.{recentOf}
 use Rattle.journal.specs.Journal.{Journal, standing}
-use Rattle.journal.specs.Inner.Judged.{countsOf, summaryOf}
+use Rattle.judge.specs.Inner.Judged.{countsOf, summaryOf}
 use Rattle.calls.specs.Checks.{indicatedIn}
 use Rattle.submit.proofs.Stages.{denied, unclear, flagged}
 use borrow.Author.Needs.{needs}

@@ -1,9 +1,9 @@
 -- The first test that holds decides, in the order of the group.
 use mathlib.Core.Path.{_≡_, ap}
-use Rattle.journal.specs.declared.judge.Summary.{Summary}
+use Rattle.judge.specs.declared.area.Summary.{Summary}
 use Rattle.journal.specs.Journal.{journalOf, standing, kept}
 use Rattle.journal.specs.Sound.{any, isFinalRead}
-use Rattle.journal.specs.Inner.Judged.{countsOf, summaryOf}
+use Rattle.judge.specs.Inner.Judged.{countsOf, summaryOf}
 use Rattle.calls.specs.Checks.{orderRules}
 use borrow.Author.Needs.{needs}
 use Rattle.submit.proofs.order.order_number.Statement.{statement}

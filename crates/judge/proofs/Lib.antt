@@ -1,0 +1,9 @@
+pub mod Bits
+pub mod Clashes
+pub mod Doubts
+pub mod Halved
+pub mod Runs
+pub mod Passes
+pub mod Newest
+pub mod Verdicts
+pub mod Numbers

@@ -1,0 +1,101 @@
+-- What an area is, by what the pass over it says.
+use mathlib.Core.Path.{_≡_, refl, sym, ap, _∙_}
+use mathlib.Core.Bool.{Bool, true, false, not, _&&_, cond, and-false}
+use mathlib.Core.List.{List}
+use Prim.Native.Nat.{ℕ, _≤_}
+use native.Mathlib.Omega.{arith}
+use borrow.Author.Tests.{eqb-true}
+use lib.Dec.{eqb}
+use lib.ListN.{length, drop}
+use Rattle.terms.specs.declared.entry.Entry.{Entry}
+use Rattle.register.specs.Area.{areaBytes, allZero}
+use Rattle.register.specs.Entries.{entryStart}
+use Rattle.register.specs.declared.head.Head.{Head}
+use Rattle.register.specs.Head.{headOf, mostEntries, bodyOf}
+use Rattle.judge.specs.declared.area.Judged.{Judged}
+use Rattle.judge.specs.declared.area.Judged.the-variants as judge
+use Rattle.judge.specs.declared.area.Summary.{Summary}
+use Rattle.judge.specs.declared.pass.Pass.{Pass}
+use Rattle.journal.specs.Journal.{Journal, entriesTo, countFrom, entryCount, journalOf, standing, withdrawn}
+use Rattle.journal.specs.Sound.{isHead, areApart, areSound, isSound}
+use Rattle.judge.specs.Inner.Judged.{summaryOf, judged, judgedBody, Judges, Counted}
+use Rattle.judge.specs.Inner.Pass.{IsPassed}
+use Rattle.journal.proofs.Bools.{both}
+use Rattle.journal.proofs.Entries.{length-entries, count-from-most}
+
+abbrev judges : Bool → Bool → Bool → Summary → Judged
+judges b z s t = cond (not b) judge.Damaged (cond z judge.Zero (cond s (judge.Sound t) judge.Damaged))
+
+no : {A : Type 0} {x y : Judged} → x ≡ y → (x ≡ y → _≡_ {A = ℕ} 0 1) → A
+no h f = absurd (let z = f h in omega arith)
+
+sound-case : (b z s : Bool) (t : Summary) {u : Summary} → judges b z s t ≡ judge.Sound u → (b ≡ true) × (s ≡ true) × (u ≡ t)
+sound-case false z s t h = no h (λ e. cc)
+sound-case true true s t h = no h (λ e. cc)
+sound-case true false true t h = (refl, refl, cc)
+sound-case true false false t h = no h (λ e. cc)
+
+-- what is judged sound is counted
+pub judged-counted : (a : List ℕ) {t : Summary} → Judges a (judge.Sound t) → Counted a t
+unfolding judged
+judged-counted a is =
+    let c = sound-case (eqb (length a) areaBytes) (allZero a) (isSound a) (summaryOf (journalOf a)) (sym (is .found-is)) in
+    record { long = eqb-true (length a) areaBytes (c .0); sound = c .1; summary = c .2 }
+
+-- ---- a sound area by its head and its body
+module _ (a : List ℕ) (t : Summary) (sound : isSound a ≡ true) (summary : t ≡ summaryOf (journalOf a)) where
+  pub head-is : t .head ≡ headOf a
+  unfolding summaryOf journalOf
+  head-is = ap (λ (u : Summary). u .head) summary
+
+  pub entries-are : t .entries ≡ entryCount a
+  unfolding summaryOf journalOf
+  entries-are = ap (λ (u : Summary). u .entries) summary ∙ length-entries (entryCount a) (bodyOf a)
+
+  pub journal-is : journalOf a ≡ record { head = t .head; entries = entriesTo (t .entries) (bodyOf a) }
+  unfolding journalOf
+  journal-is = rw (entries-are, head-is)
+
+  pub body-sound : areSound (t .head) (entriesTo (t .entries) (bodyOf a)) ≡ true
+  unfolding isSound
+  body-sound =
+      let parts = both (isHead a) _ sound in
+      let whole = both (allZero (drop (entryStart (entryCount a)) (bodyOf a))) _ (parts .1) .1 in
+      ap (λ (h : Head). areSound h (entriesTo (t .entries) (bodyOf a))) head-is
+      ∙ ap (λ (j : Journal). areSound (headOf a) (j .entries)) (sym journal-is)
+      ∙ whole
+
+-- ---- a body by the pass over it
+module _ {head : Head} {body : List ℕ} (p : Pass) (is : IsPassed head body p) where
+  pub body-disordered : p .ordered ≡ false → judgedBody head body ≡ judge.Damaged
+  unfolding judgedBody areSound
+  body-disordered h = rw (sym (is .ordered) ∙ h, and-false)
+
+  module _ (order : p .ordered ≡ true) where
+    abbrev es : List Entry
+    es = entriesTo (p .run .count) body
+
+    abbrev all : ℕ
+    all = countFrom (mostEntries head) 0 body
+
+    whole : (b : Bool) → areApart (standing es) (withdrawn es) ≡ b → areSound head (entriesTo all body) ≡ b
+    unfolding areSound
+    whole b h = rw (sym (is .ordered) ∙ order) (ap (λ (n : ℕ). areApart (standing (entriesTo n body)) (withdrawn (entriesTo n body))) (sym (is .count order)) ∙ h)
+
+    ends-are : {ends : Bool} → allZero (drop (entryStart (p .run .count)) body) ≡ ends → allZero (drop (entryStart all) body) ≡ ends
+    ends-are h = ap (λ (n : ℕ). allZero (drop (entryStart n) body)) (sym (is .count order)) ∙ h
+
+    pub body-clashing : areApart (standing es) (withdrawn es) ≡ false → judgedBody head body ≡ judge.Damaged
+    unfolding judgedBody
+    body-clashing h = rw (whole false h, and-false)
+
+    pub body-unended : allZero (drop (entryStart (p .run .count)) body) ≡ false → judgedBody head body ≡ judge.Damaged
+    unfolding judgedBody
+    body-unended h = rw (ends-are h)
+
+    pub body-judged : areApart (standing es) (withdrawn es) ≡ true → allZero (drop (entryStart (p .run .count)) body) ≡ true → judgedBody head body ≡ judge.Sound (summaryOf (record { head = head; entries = es }))
+    unfolding judgedBody
+    body-judged apart h = rw (ends-are h, whole true apart) (ap (λ (n : ℕ). judge.Sound (summaryOf (record { head = head; entries = entriesTo n body }))) (sym (is .count order)))
+
+    pub pass-room : entryStart (mostEntries head) ≤ length body → entryStart (p .run .count) ≤ length body
+    pass-room room = omega (arith, is .count order, count-from-most (mostEntries head) body)

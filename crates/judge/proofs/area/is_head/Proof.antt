@@ -1,0 +1,18 @@
+-- The kind of the first byte, and the plate.
+use Rattle.journal.specs.Sound.{isHead}
+use borrow.Author.Needs.{needs}
+use Rattle.judge.proofs.area.is_head.Statement.{statement}
+use Rattle.judge.proofs.area.is_head.Tie as tie
+
+shared-slice-read-result : tie.Need-shared-slice-read-result
+shared-slice-read-result c = search needs
+
+is-plate-requires : tie.Need-is-plate-requires
+is-plate-requires c κs = search needs
+
+returns : tie.Need-returns
+unfolding isHead
+returns c = cc
+
+pub is-head-spec : {M : Type 1} → statement M
+is-head-spec = tie.close (tie.spec shared-slice-read-result is-plate-requires returns)

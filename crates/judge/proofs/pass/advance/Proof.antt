@@ -1,0 +1,55 @@
+-- What one more entry changes is `pass-more`.
+use Rattle.judge.proofs.Passes.{pass-more, pass-run}
+use borrow.Author.Needs.{needs}
+use Rattle.judge.proofs.pass.advance.Statement.{statement}
+use Rattle.judge.proofs.pass.advance.Tie as tie
+
+may-follow-requires : tie.Need-may-follow-requires
+may-follow-requires c κs = search needs
+
+is-standing-requires : tie.Need-is-standing-requires
+is-standing-requires c κs = search needs
+
+first-with-requires : tie.Need-first-with-requires
+first-with-requires c κs = search needs
+
+count-requires : tie.Need-count-requires
+count-requires c κs = c .before .before .before .before .before .pre
+
+is-held-requires : tie.Need-is-held-requires
+is-held-requires c κs = search needs
+
+is-final-requires : tie.Need-is-final-requires
+is-final-requires c κs = search needs
+
+returns : tie.Need-returns
+returns c =
+    let final = c .before in
+    let held = final .before in
+    let counted = held .before .before .before in
+    let first = counted .before in
+    let s = first .before .before in
+    let follow = s .before in
+    λ head es l h.
+    rw (
+      pass-more,
+      ← h,
+      counted .count .ensures es (pass-run head es h),
+      first .first-with .ensures,
+      follow .may-follow .ensures head l,
+      s .is-standing .ensures,
+      held .is-held .ensures,
+      final .is-final .ensures,
+    )
+
+pub advance-spec : {M : Type 1} → statement M
+advance-spec =
+    tie.close
+    (tie.spec
+    may-follow-requires
+    is-standing-requires
+    first-with-requires
+    count-requires
+    is-held-requires
+    is-final-requires
+    returns)

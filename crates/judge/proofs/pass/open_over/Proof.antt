@@ -1,0 +1,81 @@
+-- The pass starts with nothing, or with the read that opens the journal and the run of plain ones after it.
+use mathlib.Core.Path.{_≡_, sym, ap, _∙_}
+use mathlib.Core.List.{[], _∷_}
+use Prim.Native.Nat.{ℕ, _+_}
+use native.Mathlib.Omega.{arith}
+use borrow.Author.Tests.{not-false}
+use Rattle.journal.specs.Journal.{isFlagged}
+use Rattle.judge.specs.Inner.Run.{runOf}
+use Rattle.judge.proofs.Passes.{start-zero, starts-none, first-run, starts-first}
+use borrow.Author.Needs.{needs}
+use Rattle.judge.proofs.pass.open_over.Statement.{statement}
+use Rattle.judge.proofs.pass.open_over.Tie as tie
+
+start-pass-requires : tie.Need-start-pass-requires
+start-pass-requires c κs = search needs
+
+returns : tie.Need-returns
+returns c = starts-none _ _ _ (c .before .before .start-pass .ensures)
+
+entry-at-requires : tie.Need-entry-at-requires
+entry-at-requires c κs = search needs
+
+is-first-requires : tie.Need-is-first-requires
+is-first-requires c κs = search needs
+
+returns-2 : tie.Need-returns-2
+returns-2 c = starts-none _ _ _ (c .before .before .before .before .before .start-pass .ensures)
+
+stand-requires : tie.Need-stand-requires
+stand-requires c κs =
+    let zero = start-zero (c .before .before .before .before .before .start-pass .ensures .0) in
+    (omega (arith, zero .0), omega (arith, zero .1), omega (arith, zero .3))
+
+module _ (c : tie.After-stand) where
+  abbrev first : tie.After-is-first
+  first = c .before .before
+
+  abbrev started : tie.After-start-pass
+  started = first .before .before .before .before
+
+  none : started .start-pass .result .run ≡ runOf []
+  none = started .start-pass .ensures .0
+
+  one : c .stand .result .count ≡ 1
+  one = c .stand .ensures .0 ∙ ap (λ (n : ℕ). n + 1) (start-zero none .0)
+
+  opened : c .stand .result ≡ runOf (first .before .entry-at .result ∷ [])
+  unfolding isFlagged
+  opened =
+      let is = first .is-first .ensures (not-false _ (c .before .if2 .left)) in
+      c .stand .ensures .1 [] (is .stands) (rw (is .flag) (sym (start-zero none .2))) none
+
+plain-over-requires : tie.Need-plain-over-requires
+plain-over-requires c κs =
+    let start = started c .before .before in
+    (start .pre, omega (arith, one c, first c .before .before .if1 .left), first-run _ (start .args .limits) _ (first c .before .entry-at .ensures) (one c) (opened c))
+
+returns-3 : tie.Need-returns-3
+returns-3 c =
+    let at = c .before in
+    starts-first
+    _
+    _
+    (first at .before .entry-at .ensures)
+    (first at .is-first .ensures (not-false _ (at .before .if2 .left)))
+    (omega (arith, first at .before .before .if1 .left))
+    (one at)
+    (c .plain-over .ensures)
+
+pub open-over-spec : {M : Type 1} → statement M
+open-over-spec =
+    tie.close
+    (tie.spec
+    start-pass-requires
+    returns
+    entry-at-requires
+    is-first-requires
+    returns-2
+    stand-requires
+    plain-over-requires
+    returns-3)

@@ -1,0 +1,64 @@
+-- Plain entries: those that few of the rules concern.
+use mathlib.Core.Path.{_≡_}
+use mathlib.Core.Bool.{Bool, true, false}
+use mathlib.Core.List.{List, _∷_}
+use Prim.Native.Nat.{ℕ, _+_, _-_, _≤_, _<_}
+use Rattle.arithmetic.specs.Powers.{tenTo}
+use Rattle.terms.specs.declared.entry.Entry.{Entry}
+use Rattle.terms.specs.Entry.{indicatorTrue, isStanding, slotAt}
+use Rattle.terms.specs.Letter.{isOpening, isFinal}
+use Rattle.register.specs.declared.head.Head.{Head}
+use Rattle.register.specs.Head.{mostEntries}
+use Rattle.judge.specs.declared.limits.Limits.{Limits}
+use Rattle.judge.specs.declared.run.Run.{Run}
+use Rattle.journal.specs.Journal.{entriesTo, countFrom, standing, heldOf, isThere, firstValue}
+use Rattle.journal.specs.Sound.{any, isFinalRead, takes, areInOrder}
+use Rattle.judge.specs.Inner.Marks.{hasLetter}
+use Rattle.judge.specs.Inner.Run.{runOf}
+
+-- a type that a meter takes, and that neither opens a journal nor ends one
+pub record PlainLetter (head : Head) (l : ℕ) : Type 0 where
+  pub taken : takes head l ≡ true
+  pub inner : isOpening l ≡ false
+  pub unending : isFinal l ≡ false
+
+-- what the loops need of a meter
+pub record IsLimits (head : Head) (l : Limits) : Type 0 where
+  pub limit : l .limit ≡ tenTo (head .dials)
+  pub most : l .most ≡ mostEntries head
+  pub letters : (letter : ℕ) → hasLetter (l .letters) letter ≡ true → PlainLetter head letter
+
+-- a body that may follow whatever stands, after the day of the last standing read
+pub record PlainBody (l : Limits) (last : ℕ) (e : Entry) : Type 0 where
+  pub later : last < e .day
+  pub small : e .value < l .limit
+  pub letter : hasLetter (l .letters) (e .letter) ≡ true
+  pub indicator : e .indicator ≤ indicatorTrue
+  pub flag : e .flag ≡ 0
+
+pub record Plain (l : Limits) (last : ℕ) (e : Entry) : Type 0 where
+  pub stands : isStanding e ≡ true
+  pub body : PlainBody l last e
+
+-- some entries are in order, a read stands, and none is held; the value of the first that stands, and whether an F does
+pub record IsOpen (head : Head) (first : ℕ) (ended : Bool) (es : List Entry) : Type 0 where
+  pub ordered : areInOrder head es ≡ true
+  pub stands : isThere (slotAt (standing es) 0) ≡ true
+  pub unheld : isThere (heldOf es) ≡ false
+  pub first-is : firstValue (standing es) ≡ first
+  pub ended-is : any isFinalRead (standing es) ≡ ended
+
+-- a run with one plain entry more
+pub record OneOn (l : Limits) (run : Run) (e : Entry) (r : Run) : Type 0 where
+  pub count : r .count ≡ run .count + 1
+  pub kind : e .kind ≡ 0 → ⊥
+  pub run-is : (es : List Entry) → run ≡ runOf es → r ≡ runOf (e ∷ es)
+  pub opened : (head : Head) (first : ℕ) (ended : Bool) (es : List Entry) → IsLimits head l → run ≡ runOf es → IsOpen head first ended es → IsOpen head first ended (e ∷ es)
+
+-- a run over plain entries of a body, to another
+pub record RunsTo (body : List ℕ) (l : Limits) (run r : Run) : Type 0 where
+  pub more : run .count ≤ r .count
+  pub few : r .count ≤ l .most
+  pub goes : countFrom (l .most - run .count) (run .count) body ≡ countFrom (l .most - r .count) (r .count) body
+  pub run-is : r ≡ runOf (entriesTo (r .count) body)
+  pub opened : (head : Head) (first : ℕ) (ended : Bool) → IsLimits head l → IsOpen head first ended (entriesTo (run .count) body) → IsOpen head first ended (entriesTo (r .count) body)

@@ -1,0 +1,171 @@
+// What an area is: all zero, damaged, or sound with what is counted of its entries.
+ghost use mathlib.Core.Path.{_≡_};
+ghost use mathlib.Core.Bool.{false, cond};
+ghost use Prim.Native.Nat.{_-_, _≤_};
+ghost use lib.ListN.{length};
+ghost use Rattle.arithmetic.specs.Powers.{tenTo};
+ghost use Rattle.terms.specs.Entry.{slotAt};
+ghost use Rattle.register.specs.Area.{areaBytes, allZero};
+ghost use Rattle.register.specs.declared.head.Head.{Head};
+ghost use Rattle.register.specs.Entries.{entryStart};
+ghost use Rattle.register.specs.Head.{headOf, mostEntries};
+ghost use Rattle.journal.specs.Journal.{entriesTo, standing};
+ghost use Rattle.journal.specs.Sound.{isHead};
+ghost use Rattle.judge.specs.Inner.Judged.{valueOf, summaryOf, judged, judgedBody, Judges};
+ghost use Rattle.judge.specs.Inner.Run.{runOf};
+ghost use Rattle.judge.specs.Inner.Pass.{IsPass};
+use crate::apart::is_apart;
+use crate::limits::limits_of;
+use crate::pass::Pass;
+use crate::pass::pass_over;
+use crate::read::entry_at;
+use crate::read::head_at;
+use crate::run::Run;
+use crate::run::one_less;
+use journal::plate::is_plate;
+use register::area::Layout;
+use register::head::Head;
+use register::head::head_bytes;
+use register::zeros::is_zero_from;
+use terms::entry::Kind;
+
+// Counts over a journal's entries.
+pub struct Counts {
+    // Standing and withdrawn entries.
+    pub kept: u8,
+    pub standing: u8,
+    pub flagged: u8,
+    // The value of the first standing read.
+    pub first: u32,
+    // How many entries come before the last standing one.
+    pub newest: u8,
+}
+
+pub struct Summary {
+    pub head: Head,
+    pub counts: Counts,
+    // The value and the day of the last standing read, and 0 where none stands.
+    pub last: u32,
+    pub day: u16,
+    // The latest day of a withdrawn read, and 0 where there is none.
+    pub latest: u16,
+    // A bit for each value of a withdrawn read that a later standing one may have.
+    pub marks: u64,
+    // What the dials hold, 10^n, which is looked up once.
+    pub limit: u32,
+    pub entries: u8,
+    // An F stands.
+    pub ended: bool,
+}
+
+pub enum Judged {
+    Zero,
+    Damaged,
+    Sound(Summary),
+}
+
+// The value of the last standing read.
+fn last_value(body: &[u8], run: Run) -> u32
+    requires { ⌜ (entryStart (run .count) ≤ length (now body)) × (run ≡ runOf (entriesTo (run .count) (now body))) ⌝ }
+    ensures { λ r. ⌜ r ≡ valueOf (slotAt (standing (entriesTo (run .count) (now (body .entry)))) 0) ⌝ }
+{
+    if run.standing == 0 {
+        return 0;
+    }
+    let e = entry_at(body, run.newest);
+    e.value
+}
+
+// How many entries are kept: all but a held one.
+fn kept_of(count: u8, held: bool) -> u8
+    ensures { λ r. ⌜ r ≡ cond held (count - 1) count ⌝ }
+{
+    if held {
+        return one_less(count);
+    }
+    count
+}
+
+// What is counted, once all entries are passed.
+fn summary_of(body: &[u8], head: Head, limit: u32, pass: Pass) -> Summary
+    requires { ⌜ (entryStart (pass .run .count) ≤ length (now body)) × (pass .run ≡ runOf (entriesTo (pass .run .count) (now body))) ⌝ }
+    ensures { λ r. ⌜ (limit ≡ tenTo (head .dials) → IsPass head (now (body .entry)) pass → r ≡ summaryOf (record { head = head; entries = entriesTo (pass .run .count) (now (body .entry)) })) ⌝ }
+{
+    let run = pass.run;
+    let kept = kept_of(run.count, pass.held);
+    let last = last_value(body, run);
+    Summary {
+        head,
+        counts: Counts {
+            kept,
+            standing: run.standing,
+            flagged: run.flagged,
+            first: pass.first,
+            newest: run.newest,
+        },
+        last,
+        day: run.day,
+        latest: run.latest,
+        marks: run.marks,
+        limit,
+        entries: run.count,
+        ended: pass.ended,
+    }
+}
+
+fn is_head(area: &[u8], head: Head) -> bool
+    requires { ⌜ (length (now area) ≡ areaBytes) × (head ≡ headOf (now area)) ⌝ }
+    ensures { λ r. ⌜ r ≡ isHead (now (area .entry)) ⌝ }
+{
+    (area[0] == Kind::METER) & is_plate(head)
+}
+
+// The entries that follow a head.
+fn judge_body(body: &[u8], head: Head) -> Judged
+    requires { ⌜ entryStart (mostEntries head) ≤ length (now body) ⌝ }
+    ensures { λ r. ⌜ r ≡ judgedBody head (now (body .entry)) ⌝ }
+{
+    let limits = limits_of(head);
+    let pass = pass_over(body, head, limits);
+    if !pass.ordered {
+        return Judged::Damaged;
+    }
+    let run = pass.run;
+    if !is_apart(body, head, run) {
+        return Judged::Damaged;
+    }
+    if !is_zero_from(body, Layout::ENTRY_BYTES * (run.count as usize)) {
+        return Judged::Damaged;
+    }
+    Judged::Sound(summary_of(body, head, limits.limit, pass))
+}
+
+// An area of 512 bytes that are not all zero.
+fn judge_journal(area: &[u8]) -> Judged
+    requires { ⌜ (length (now area) ≡ areaBytes) × (allZero (now area) ≡ false) ⌝ }
+    ensures { λ r. ⌜ r ≡ judged (now (area .entry)) ⌝ }
+{
+    let head = head_at(area);
+    if !is_head(area, head) {
+        return Judged::Damaged;
+    }
+    let start = head_bytes(head);
+    judge_body(&area[start..], head)
+}
+
+// All zero, damaged, or sound with what is counted: for any bytes whatever. An area whose first byte is not zero need not be looked through
+// for zeros.
+pub fn judge_area(area: &[u8]) -> Judged
+    ensures { λ r. ⌜ Judges (now (area .entry)) r ⌝ }
+{
+    if area.len() != Layout::AREA_BYTES {
+        return Judged::Damaged;
+    }
+    if area[0] != 0 {
+        return judge_journal(area);
+    }
+    if is_zero_from(area, 0) {
+        return Judged::Zero;
+    }
+    Judged::Damaged
+}
