@@ -2,7 +2,6 @@
 use mathlib.Core.Path.{_≡_}
 use mathlib.Core.Bool.{true}
 use mathlib.Core.List.{List}
-use Prim.Native.Nat.{ℕ}
 use Rattle.register.specs.declared.head.Head.{Head}
 use Rattle.terms.specs.declared.entry.Entry.{Entry}
 use Rattle.terms.specs.Entry.{those}

@@ -6,7 +6,7 @@ use mathlib.Core.List.{List, [], _∷_}
 use Prim.Native.Nat.{ℕ, _≤_, _<_}
 use native.Mathlib.Omega.{arith}
 use borrow.Author.Tests.{eqb-true, eqb-false, eq-eqb, ne-eqb, leb-true, not-false}
-use lib.Dec.{eqb, leb, ltb}
+use lib.Dec.{eqb, leb}
 use lib.IntN.{negℤ}
 use lib.ListN.{length}
 use Rattle.register.specs.declared.head.Head.{Head}
@@ -15,7 +15,7 @@ use Rattle.terms.specs.declared.entry.Slot.{Slot}
 use Rattle.terms.specs.declared.entry.Slot.the-variants.{Read, Empty}
 use Rattle.terms.specs.declared.submission.Submission.{Submission}
 use Rattle.terms.specs.Entry.{those, kindMeter, indicatorNotSet, indicatorTrue, isStanding, isWithdrawn, isHeld, slotAt}
-use Rattle.terms.specs.Letter.{isKnown, isOpening}
+use Rattle.terms.specs.Letter.{isOpening}
 use Rattle.terms.specs.Answer.{answer}
 use Rattle.terms.specs.Number.{accepted}
 use Rattle.rules.specs.Volume.{advanceOver}

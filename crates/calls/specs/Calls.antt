@@ -1,8 +1,8 @@
 -- 01, Calls: what each call answers and what it leaves, byte for byte.
-use mathlib.Core.Bool.{Bool, true, false, not, _||_, cond}
+use mathlib.Core.Bool.{Bool, not, _||_, cond}
 use mathlib.Core.List.{List, [], _∷_}
 use Prim.Native.Nat.{ℕ, _*_}
-use lib.Dec.{eqb, leb, ltb}
+use lib.Dec.{eqb, leb}
 use lib.IntN.{ℤ, pos, negℤ}
 use lib.ListN.{length, set, take, drop}
 use Rattle.arithmetic.specs.Advance.{advanceOf}

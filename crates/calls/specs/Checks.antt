@@ -22,7 +22,7 @@ use Rattle.register.specs.declared.head.Head.{Head}
 use Rattle.register.specs.Head.{mostEntries}
 use Rattle.journal.specs.Journal.{Journal, journalOf, standing, withdrawn, kept, heldOf, isThere, onDay}
 use Rattle.journal.specs.Numbers.{areaRules}
-use Rattle.journal.specs.Sound.{any, exists, hasRead, isFinalRead, isPlate, isSound}
+use Rattle.journal.specs.Sound.{any, exists, hasRead, isFinalRead, isPlate}
 
 -- ---- 5 to 8: what is submitted
 -- "value 4,294,967,295, the mark for unpopulated"

@@ -1,5 +1,5 @@
 -- What the loops over a body's entries share: one entry more, and how many there are.
-use mathlib.Core.Path.{_≡_, refl, ap, sym, _∙_}
+use mathlib.Core.Path.{_≡_, refl, ap}
 use mathlib.Core.Bool.{Bool, true, false, _&&_, _||_, cond}
 use mathlib.Core.List.{List, [], _∷_}
 use Prim.Native.Nat.{ℕ, zero, suc, _+_, _-_, _≤_, _<_}
@@ -13,7 +13,7 @@ use Rattle.terms.specs.Entry.{keepIf, those}
 use Rattle.register.specs.Bytes.{byteAt}
 use Rattle.register.specs.Entries.{entryStart, entryAt}
 use Rattle.register.specs.Head.{headOf, mostEntries, bodyOf}
-use Rattle.journal.specs.Journal.{entriesTo, countFrom, entryCount, standing}
+use Rattle.journal.specs.Journal.{entriesTo, countFrom, entryCount}
 use Rattle.journal.specs.Sound.{any}
 
 -- one entry more

@@ -5,7 +5,6 @@ use mathlib.Core.List.{List, [], _∷_}
 use Prim.Native.Nat.{ℕ, zero, suc, _+_, _-_, _≤_, _<_}
 use native.Mathlib.Omega.{arith}
 use borrow.Author.Tests.{ltb-true, lt-ltb, eqb-true}
-use lib.Dec.{eqb}
 use Rattle.terms.specs.declared.entry.Entry.{Entry}
 use Rattle.register.specs.declared.head.Head.{Head}
 use Rattle.terms.specs.declared.entry.Slot.{Slot}

@@ -1,5 +1,5 @@
 -- A mark set stays set, and the value that set it is marked. The letters of the plain entries.
-use mathlib.Core.Path.{_≡_, refl, ap, sym, _∙_}
+use mathlib.Core.Path.{_≡_, refl, ap, _∙_}
 use mathlib.Core.Bool.{Bool, true, false, not, _&&_, _||_}
 use Prim.Native.Nat.{ℕ, zero, suc, _+_, _-_, _*_, _/_, _%_, _^_, _≤_, _<_}
 use native.Mathlib.Nat.{mod-lt, mod-eq-of-lt, div-self, zero-div, one-mul}
@@ -9,6 +9,7 @@ use lib.Bits.{bitOr, or-shr, or-mod, or-comm}
 use lib.Dec.{leb}
 use lib.Pow.{pow-pos, pow-lt}
 use Rattle.terms.specs.Letter.{isKnown, isOpening, isFinal}
+use Rattle.terms.proofs.Below.{all-below, below}
 use Rattle.register.specs.declared.head.Head.{Head}
 use Rattle.journal.specs.Sound.{takes}
 use Rattle.judge.specs.Inner.Marks.{markOf, isMarked, markOn, hasLetter}
@@ -54,20 +55,6 @@ bit-shifted v =
     ap (λ (n : ℕ). n % 18446744073709551616) (one-mul (2 ^ (v % 64))) ∙ mod-eq-of-lt small
 
 -- ---- every letter of the 64 that has a bit is plain: one test over all places
-all-below : ℕ → (ℕ → Bool) → Bool
-all-below zero p = true
-all-below (suc n) p = p n && all-below n p
-
-below : (n : ℕ) (p : ℕ → Bool) → all-below n p ≡ true → (k : ℕ) → k < n → p k ≡ true
-unfolding all-below
-below zero p h k l = absurd (omega arith)
-below (suc n) p h k l = cases (leb n k) refl (below n p (both (p n) (all-below n p) h .1) k) where
-  cases : (b : Bool) → leb n k ≡ b → (k < n → p k ≡ true) → p k ≡ true
-  cases true e rest =
-      let at : n ≡ k = omega (arith, leb-true n k e) in
-      rw at at (both (p n) (all-below n p) h .0)
-  cases false e rest = rest (leb-false n k e)
-
 isPlain : ℕ → Bool
 isPlain l = isKnown l && (not (isOpening l) && not (isFinal l))
 

@@ -108,9 +108,6 @@ start-goes most body =
 pub next-goes : {most at k : ℕ} (body : List ℕ) → at < most → (byteAt body (entryStart at) ≡ 0 → ⊥) → countFrom (most - at) at body ≡ countFrom most 0 body → at ≡ k → countFrom (most - (k + 1)) (k + 1) body ≡ countFrom most 0 body
 next-goes {most} {at} body h some goes same = rw same at (sym (count-on most at body h some) ∙ goes)
 
-pub pass-rises : {head : Head} {body : List ℕ} {p : Pass} → IsPass head body p → daysRise (standing (entriesTo (p .run .count) body)) ≡ true
-pass-rises {head} is = days-rise head _ (is .ordered)
-
 -- ---- the read that opens a journal
 opening-is : (l : ℕ) → isOpening l ≡ true → (isKnown l ≡ true) × (isFinal l ≡ false)
 unfolding isOpening isKnown isFinal

@@ -1,22 +1,22 @@
 -- Runs of plain entries: what is kept of one entry more, and that a journal that is open stays so.
-use mathlib.Core.Path.{_≡_, refl, sym, ap, _∙_}
-use mathlib.Core.Bool.{Bool, true, false, not, _&&_, _||_, cond, and-true}
+use mathlib.Core.Path.{_≡_, refl, ap, _∙_}
+use mathlib.Core.Bool.{Bool, true, false, not, _&&_, _||_, cond}
 use mathlib.Core.List.{List, [], _∷_}
-use Prim.Native.Nat.{ℕ, suc, _+_, _-_, _≤_, _<_}
+use Prim.Native.Nat.{ℕ, _+_, _-_, _≤_, _<_}
 use native.Mathlib.Numerals.{add-one}
 use native.Mathlib.Omega.{arith}
 use borrow.Author.Tests.{lt-ltb, le-leb, ne-eqb, eqb-true}
 use lib.Dec.{leb, ltb}
 use lib.ListN.{length}
 use Rattle.terms.specs.declared.entry.Entry.{Entry}
-use Rattle.terms.specs.Entry.{kindStanding, kindWithdrawn, isStanding, isWithdrawn, isHeld, keepIf, those, slotAt}
+use Rattle.terms.specs.Entry.{kindWithdrawn, isStanding, isWithdrawn, isHeld, keepIf, those, slotAt}
 use Rattle.terms.specs.declared.entry.Slot.the-variants.{Empty}
 use Rattle.register.specs.declared.head.Head.{Head}
 use Rattle.register.specs.Bytes.{byteAt}
 use Rattle.register.specs.Entries.{entryStart, entryAt}
 use Rattle.judge.specs.declared.limits.Limits.{Limits}
 use Rattle.judge.specs.declared.run.Run.{Run}
-use Rattle.journal.specs.Journal.{entriesTo, countFrom, standing, withdrawn, slotIf, heldOf, isThere, isFlagged, firstValue, newestAt}
+use Rattle.journal.specs.Journal.{entriesTo, standing, slotIf, heldOf, isThere, isFlagged, firstValue, newestAt}
 use Rattle.journal.specs.Sound.{any, isFinalRead, holds, isInRange, isRead, areInOrder}
 use Rattle.journal.specs.Inner.Loops.{standsBy, followsBy, dayOf}
 use Rattle.judge.specs.Inner.Marks.{markOf, markOn}

@@ -14,7 +14,6 @@ use crate::room::has_entry;
 use crate::room::has_room;
 use judge::area::Summary;
 use judge::marks::is_marked;
-use register::area::Layout;
 use register::head::head_bytes;
 use terms::entry::Entry;
 use terms::entry::Kind;

@@ -3,17 +3,16 @@ use mathlib.Core.Path.{_≡_, refl, sym, _∙_}
 use mathlib.Core.Bool.{Bool, true, false, _&&_, and-eq-true-iff}
 use mathlib.Core.List.{List, [], _∷_}
 use Prim.Native.Nat.{ℕ, zero, suc, _+_, _-_, _*_, _≤_, _<_}
-use native.Mathlib.Numerals.{add-one}
 use native.Mathlib.Omega.{arith}
 use borrow.Author.Tests.{leb-true, leb-false, eqb-true, eq-eqb}
 use lib.Bits.{bitOr, or-add-and, and-le-l, and-le-r}
 use lib.Dec.{eqb, leb}
-use lib.ListN.{length, getD, drop}
+use lib.ListN.{getD, drop}
 use lib.Seq.{getD-drop}
 use Rattle.register.specs.Bytes.{byteAt}
 use Rattle.register.specs.declared.zeros.Lanes.{Lanes}
 use Rattle.register.specs.Area.{allZero}
-use Rattle.register.specs.Inner.Zeros.{AreZero, Zeros, Clear, Adds}
+use Rattle.register.specs.Inner.Zeros.{Zeros, Adds}
 
 -- ---- bytes side by side
 module _ (b : List ℕ) where

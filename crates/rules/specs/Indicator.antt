@@ -1,5 +1,5 @@
 -- 01, Detection, "Indicator (001)": what the submitted indicator makes of the detection.
-use mathlib.Core.Bool.{Bool, true, false, cond}
+use mathlib.Core.Bool.{true, false, cond}
 use Prim.Native.Nat.{ℕ}
 use lib.Dec.{eqb}
 use Rattle.terms.specs.Entry.{indicatorNotSet, indicatorFalse, indicatorTrue}

@@ -1,7 +1,7 @@
 // Volume: whether an advance is low or high against the one before, or over the meter's capacity.
 ghost use mathlib.Core.Path.{_≡_};
 ghost use Rattle.arithmetic.specs.Inner.Bounds.{Within, advanceMost};
-ghost use Rattle.rules.specs.Volume.{advanceOver, hasVolumeCheck, hasThreshold, lastAdvance, comparedWith, compared, comparedNumber, daysInYear, isWithinCapacity, volumeNumber};
+ghost use Rattle.rules.specs.Volume.{advanceOver, hasVolumeCheck, hasThreshold, comparedWith, compared, comparedNumber, daysInYear, isWithinCapacity, volumeNumber};
 use crate::rate::scaled;
 use crate::settings::Settings;
 use arithmetic::advance::advance;

@@ -1,5 +1,5 @@
 -- 00, demand 2: "accepted if its rules accept, otherwise the number of the first rule broken". An order of checks is a list of rules.
-use mathlib.Core.Bool.{Bool, true, false, cond}
+use mathlib.Core.Bool.{Bool, cond}
 use mathlib.Core.List.{List, [], _∷_}
 use Prim.Native.Nat.{ℕ}
 use Rattle.terms.specs.Number.{accepted}

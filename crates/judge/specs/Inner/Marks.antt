@@ -2,7 +2,7 @@
 use mathlib.Core.Bool.{Bool, _&&_}
 use Prim.Native.Nat.{ℕ, _^_, _/_, _%_}
 use lib.Bits.{bitOr}
-use lib.Dec.{eqb, leb, ltb}
+use lib.Dec.{eqb, leb}
 
 -- the bit at a value's place
 unfoldable pub markOf : ℕ → ℕ → ℕ

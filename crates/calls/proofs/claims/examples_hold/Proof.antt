@@ -6,7 +6,7 @@ use Rattle.calls.specs.Calls.{placeOf}
 use Rattle.calls.specs.Checks.{isWithdrawnRead}
 use Rattle.calls.specs.Play.{numberOf, names, mayChange, isPicked, picked}
 use Rattle.calls.specs.Ledger.{isSameRead, takeOut, emptyLedger, flagOf, entered, isAccepted, ledgerAfter, ledgerOf, hasAccepted, isEnrolment, hasEnrolment, firstValueOf, lastLessFirst, isAmong, areNoneOf}
-use Rattle.calls.specs.Examples.{year, ExamplesHold}
+use Rattle.calls.specs.Examples.{year}
 use Rattle.calls.proofs.claims.examples_hold.Statement.{statement}
 use Rattle.calls.proofs.claims.examples_hold.Tie as tie
 

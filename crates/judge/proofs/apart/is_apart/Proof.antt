@@ -1,9 +1,8 @@
 -- Where nothing may clash, nothing does.
-use mathlib.Core.Path.{_≡_, sym, _∙_}
+use mathlib.Core.Path.{sym, _∙_}
 use Rattle.journal.proofs.InOrder.{days-rise}
 use Rattle.judge.proofs.Doubts.{undoubted}
 use Rattle.judge.proofs.Runs.{run-doubts, run-day}
-use borrow.Author.Needs.{needs}
 use Rattle.judge.proofs.apart.is_apart.Statement.{statement}
 use Rattle.judge.proofs.apart.is_apart.Tie as tie
 

@@ -1,10 +1,6 @@
-use mathlib.Core.Path.{_≡_, sym, _∙_, ap}
-use lib.ListN.{length}
-use native.Mathlib.Omega.{arith}
 use Rattle.terms.specs.Entry.{slotAt}
 use Rattle.judge.specs.Inner.Judged.{valueOf}
 use Rattle.judge.proofs.Newest.{none-standing, run-newest, run-room}
-use borrow.Author.Needs.{needs}
 use Rattle.judge.proofs.area.last_value.Statement.{statement}
 use Rattle.judge.proofs.area.last_value.Tie as tie
 

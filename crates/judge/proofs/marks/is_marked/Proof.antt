@@ -1,4 +1,3 @@
-use Rattle.judge.specs.Inner.Marks.{markOf}
 use borrow.Author.Needs.{needs}
 use Rattle.judge.proofs.marks.is_marked.Statement.{statement}
 use Rattle.judge.proofs.marks.is_marked.Tie as tie

@@ -1,11 +1,9 @@
 -- What is passed is in order; the first entry that may not follow decides the whole.
 use mathlib.Core.Path.{_≡_, sym, ap, _∙_, refl}
-use mathlib.Core.Bool.{false}
 use mathlib.Core.List.{List, _∷_}
 use Prim.Native.Nat.{ℕ, _+_, _-_, _≤_}
 use native.Mathlib.Omega.{arith}
 use borrow.Author.Tests.{not-true, not-false}
-use Rattle.terms.specs.declared.entry.Entry.{Entry}
 use Rattle.register.specs.declared.head.Head.{Head}
 use lib.ListN.{length}
 use Rattle.register.specs.Entries.{entryStart, entryAt}

@@ -1,7 +1,6 @@
 -- The test is the definition's.
 use native.Mathlib.Omega.{arith}
 use borrow.Author.Tests.{le-leb, lt-leb}
-use borrow.Author.Needs.{needs}
 use Rattle.judge.proofs.past.doubt_of.Statement.{statement}
 use Rattle.judge.proofs.past.doubt_of.Tie as tie
 

@@ -1,6 +1,5 @@
 -- The test is the definition's.
 use borrow.Author.Tests.{lt-ltb, le-ltb}
-use borrow.Author.Needs.{needs}
 use Rattle.judge.proofs.past.later.Statement.{statement}
 use Rattle.judge.proofs.past.later.Tie as tie
 

@@ -1,7 +1,6 @@
 -- The test is the definition's.
 use borrow.Author.Tests.{lt-ltb, le-ltb}
 use Rattle.judge.specs.Inner.Past.{liveMarks}
-use borrow.Author.Needs.{needs}
 use Rattle.judge.proofs.past.live_marks.Statement.{statement}
 use Rattle.judge.proofs.past.live_marks.Tie as tie
 

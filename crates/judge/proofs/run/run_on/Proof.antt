@@ -1,5 +1,5 @@
 -- A plain entry takes the run one on, and any other leaves it as it was.
-use mathlib.Core.Path.{_≡_, refl, sym, _∙_}
+use mathlib.Core.Path.{refl, sym, _∙_}
 use borrow.Author.Tests.{not-false}
 use Rattle.journal.specs.Journal.{isFlagged}
 use Rattle.judge.proofs.Runs.{stand-one, withdraw-one}

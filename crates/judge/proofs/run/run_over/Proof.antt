@@ -1,10 +1,8 @@
 -- The run over the entries passed; each turn passes one more.
-use mathlib.Core.Path.{_≡_}
-use Prim.Native.Nat.{_-_, _<_}
+use Prim.Native.Nat.{_-_}
 use native.Mathlib.Omega.{arith}
 use Rattle.judge.specs.Inner.Plain.{RunsTo}
 use Rattle.judge.proofs.Runs.{runs-none, runs-one, run-small}
-use borrow.Author.Needs.{needs}
 use Rattle.judge.proofs.run.run_over.Statement.{statement}
 use Rattle.judge.proofs.run.run_over.Tie as tie
 

@@ -4,7 +4,6 @@ use Rattle.journal.specs.Journal.{newestAt}
 use Rattle.journal.specs.Inner.Loops.{dayOf}
 use Rattle.judge.specs.Inner.Past.{latestDay, marksOf, doubtsIn}
 use Rattle.judge.specs.Inner.Run.{runOf}
-use borrow.Author.Needs.{needs}
 use Rattle.judge.proofs.run.start_run.Statement.{statement}
 use Rattle.judge.proofs.run.start_run.Tie as tie
 

@@ -1,6 +1,5 @@
 use Rattle.terms.specs.Entry.{isStanding}
 use Rattle.reads.proofs.Days.{on-it, not-on-it}
-use borrow.Author.Needs.{needs}
 use Rattle.reads.proofs.found.newer_on.Statement.{statement}
 use Rattle.reads.proofs.found.newer_on.Tie as tie
 

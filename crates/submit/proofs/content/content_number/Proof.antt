@@ -1,6 +1,5 @@
 -- The first test that holds decides, in the order of the group.
-use mathlib.Core.Path.{_≡_, sym, ap, _∙_}
-use mathlib.Core.Bool.{false}
+use mathlib.Core.Path.{_≡_, sym, ap}
 use Rattle.judge.specs.declared.area.Summary.{Summary}
 use Rattle.journal.specs.Journal.{journalOf}
 use Rattle.judge.specs.Inner.Judged.{summaryOf}
