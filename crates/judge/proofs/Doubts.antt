@@ -15,7 +15,7 @@ use Rattle.journal.specs.Sound.{any, every, hasRead, daysRise, isLater, isFinal
 use Rattle.journal.specs.Inner.Follow.{mayFollow}
 use Rattle.journal.specs.Inner.Loops.{dayOf}
 use Rattle.judge.specs.Inner.Marks.{markOf, isMarked, markOn}
-use Rattle.judge.specs.Inner.Past.{latestDay, lastDay, liveMarks, marksOf, clashes, doubtOf, doubtsIn}
+use Rattle.judge.specs.Inner.Past.{latestDay, lastDay, liveMarks, nearMarks, marksOf, clashes, doubtOf, doubtsIn}
 use Rattle.journal.proofs.Bools.{false-is, both}
 use Rattle.judge.proofs.Bits.{stays-marked, then-marked, mark-small}
 use Rattle.judge.proofs.Clashes.{stands-unwithdrawn, apart-more, none-as-late, none-stands}
@@ -81,6 +81,15 @@ module _ (day value : ℕ) where
   none-marked [] r l u = refl
   none-marked (e ∷ es) r l u = one-more (isStanding e) e es refl (none-marked es) r l u
 
+  pub none-near : (es : List Entry) → daysRise (standing es) ≡ true → lastDay es < day → markOf (nearMarks day (latestDay (withdrawn es)) (marksOf es)) value ≡ 0 → any (hasRead day value) (withdrawn es) ≡ false
+  unfolding nearMarks
+  none-near es r l u = cases (ltb (latestDay (withdrawn es)) day) refl where
+    cases : (b : Bool) → ltb (latestDay (withdrawn es)) day ≡ b → any (hasRead day value) (withdrawn es) ≡ false
+    cases true h = none-as-late day value (withdrawn es) (ltb-true (latestDay (withdrawn es)) day h)
+    cases false h =
+        let mark : markOf (marksOf es) value ≡ 0 = rw h at u in
+        none-marked es r l (rw mark)
+
 -- ---- no clash, where none may be
 module _ (head : Head) (e : Entry) (es : List Entry) (order : areInOrder head (e ∷ es) ≡ true) where
   rises : daysRise (standing (e ∷ es)) ≡ true
@@ -104,9 +113,7 @@ module _ (head : Head) (e : Entry) (es : List Entry) (order : areInOrder head (e
   clash-free : (s w : Bool) → isStanding e ≡ s → isWithdrawn e ≡ w → doubtOf e es ≡ 0 → clashes e es ≡ false
   unfolding doubtOf clashes
   clash-free true w s g u =
-      let mark : markOf (marksOf es) (e .value) ≡ 0 = rw s at u in
-      let free : isMarked (marksOf es) (e .value) ≡ false = rw mark in
-      rw (s, stands-unwithdrawn e s, none-marked (e .day) (e .value) es before (after-last s) free)
+      rw (s, stands-unwithdrawn e s, none-near (e .day) (e .value) es before (after-last s) (rw s at u))
   clash-free false true s g u =
       let later : lastDay es < e .day = leb-false _ _ (unsure (leb (e .day) (lastDay es)) (rw (s, g) at u)) in
       rw (s, g, none-stands (e .day) (e .value) (standing es) before later)
@@ -126,11 +133,11 @@ undoubted head (e ∷ es) order u =
 -- ---- there are no more doubts than entries
 doubt-small : (e : Entry) (es : List Entry) → doubtOf e es ≤ 1
 unfolding doubtOf
-doubt-small e es = small (isStanding e) (isWithdrawn e && leb (e .day) (lastDay es)) where
-  small : (s d : Bool) → cond s (markOf (marksOf es) (e .value)) (cond d 1 0) ≤ 1
-  small true d = mark-small (marksOf es) (e .value)
-  small false true = omega arith
-  small false false = omega arith
+doubt-small e es = small (isStanding e) (isWithdrawn e && leb (e .day) (lastDay es)) (nearMarks (e .day) (latestDay (withdrawn es)) (marksOf es)) where
+  small : (s d : Bool) (near : ℕ) → cond s (markOf near (e .value)) (cond d 1 0) ≤ 1
+  small true d near = mark-small near (e .value)
+  small false true near = omega arith
+  small false false near = omega arith
 
 pub doubts-at-most : (es : List Entry) → doubtsIn es ≤ length es
 unfolding doubtsIn

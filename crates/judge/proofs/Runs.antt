@@ -20,7 +20,7 @@ use Rattle.journal.specs.Journal.{entriesTo, standing, slotIf, heldOf, isThere,
 use Rattle.journal.specs.Sound.{any, isFinalRead, holds, isInRange, isRead, areInOrder}
 use Rattle.journal.specs.Inner.Loops.{standsBy, followsBy, dayOf}
 use Rattle.judge.specs.Inner.Marks.{markOf, markOn}
-use Rattle.judge.specs.Inner.Past.{laterOf, latestDay, liveMarks, marksOf, doubtOf, doubtsIn}
+use Rattle.judge.specs.Inner.Past.{laterOf, latestDay, liveMarks, nearMarks, marksOf, doubtOf, doubtsIn}
 use Rattle.judge.specs.Inner.Run.{runOf, plainTo}
 use Rattle.judge.specs.Inner.Plain.{PlainLetter, IsLimits, PlainBody, Plain, IsOpen, OneOn, RunsTo}
 use Rattle.judge.proofs.Bits.{no-mark}
@@ -74,7 +74,7 @@ pub run-more : (e : Entry) (es : List Entry) → runOf (e ∷ es) ≡ record {
   standing = cond (isStanding e) (runOf es .standing + 1) (runOf es .standing);
   flagged = cond (isStanding e && isFlagged e) (runOf es .flagged + 1) (runOf es .flagged);
   newest = cond (isStanding e) (runOf es .count) (runOf es .newest);
-  doubts = runOf es .doubts + cond (isStanding e) (markOf (runOf es .marks) (e .value)) (cond (isWithdrawn e && leb (e .day) (runOf es .day)) 1 0);
+  doubts = runOf es .doubts + cond (isStanding e) (markOf (nearMarks (e .day) (runOf es .latest) (runOf es .marks)) (e .value)) (cond (isWithdrawn e && leb (e .day) (runOf es .day)) 1 0);
 }
 unfolding runOf those newestAt marksOf doubtOf doubtsIn
 run-more e es = simp (length-kept, flagged-kept, latest-kept, day-kept, ← add-one)
@@ -199,12 +199,9 @@ runs-one {body} {l} {from} {run} {r} {e} runs h read one =
     }
 
 -- ---- plain standing reads alone
-live-none : (day latest : ℕ) → liveMarks day latest 0 ≡ 0
-unfolding liveMarks
-live-none day latest = either (ltb day latest) where
-  either : (b : Bool) → _≡_ {A = ℕ} (cond b 0 0) 0
-  either true = refl
-  either false = refl
+none-either : (b : Bool) → _≡_ {A = ℕ} (cond b 0 0) 0
+none-either true = refl
+none-either false = refl
 
 pub plain-start : (run : Run) → run .newest ≡ run .count - 1 → plainTo run (run .count) (run .day) ≡ run
 unfolding plainTo
@@ -213,7 +210,7 @@ plain-start run h =
     rw (same, ← h)
 
 pub plain-one : {l : Limits} {e : Entry} (from : Run) (k day : ℕ) → from .count ≤ k → from .marks ≡ 0 → Plain l day e → OneOn l (plainTo from k day) e (plainTo from (k + 1) (e .day))
-unfolding plainTo isFlagged
+unfolding plainTo isFlagged liveMarks nearMarks
 plain-one {l} {e} from k day h none p =
     let s = p .stands in
     let before = plainTo from k day in
@@ -222,8 +219,9 @@ plain-one {l} {e} from k day h none p =
     λ es is.
     (let stand : from .standing + (k + 1 - from .count) ≡ from .standing + (k - from .count) + 1 = omega arith in
     let newest : k + 1 - 1 ≡ k = omega arith in
-    let live : liveMarks (e .day) (from .latest) 0 ≡ 0 = live-none (e .day) (from .latest) in
+    let live : liveMarks (e .day) (from .latest) 0 ≡ 0 = none-either (ltb (e .day) (from .latest)) in
+    let near : nearMarks (e .day) (from .latest) 0 ≡ 0 = none-either (ltb (from .latest) (e .day)) in
     let same : from .doubts + 0 ≡ from .doubts = omega arith in
-    rw (run-more, ← is, s, stands-unwithdrawn e s, p .body .flag, none, live, no-mark (e .value), same, stand, newest))
+    rw (run-more, ← is, s, stands-unwithdrawn e s, p .body .flag, none, live, near, no-mark (e .value), same, stand, newest))
     in
     stand-one before e after (p .body) refl more s

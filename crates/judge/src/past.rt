@@ -3,7 +3,7 @@ ghost use mathlib.Core.Path.{_≡_};
 ghost use mathlib.Core.Bool.{cond};
 ghost use Prim.Native.Nat.{_≤_};
 ghost use lib.Dec.{leb};
-ghost use Rattle.judge.specs.Inner.Past.{laterOf, liveMarks};
+ghost use Rattle.judge.specs.Inner.Past.{laterOf, liveMarks, nearMarks};
 
 // The later of two days.
 pub(crate) fn later(a: u16, b: u16) -> u16
@@ -23,6 +23,16 @@ pub(crate) fn live_marks(day: u16, latest: u16, marks: u64) -> u64
         return marks;
     }
     0
+}
+
+// The marks that a read of a day may have: none, where it is after every withdrawn one.
+pub(crate) fn near_marks(day: u16, latest: u16, marks: u64) -> u64
+    ensures { λ r. ⌜ r ≡ nearMarks day latest marks ⌝ }
+{
+    if latest < day {
+        return 0;
+    }
+    marks
 }
 
 // 1 for a withdrawn read that is not later than the last standing one, and may clash with any of those before.

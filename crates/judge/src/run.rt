@@ -18,6 +18,7 @@ use crate::marks::mark_of;
 use crate::past::doubt_of;
 use crate::past::later;
 use crate::past::live_marks;
+use crate::past::near_marks;
 use crate::read::entry_at;
 use journal::order::is_standing;
 use journal::order::is_withdrawn;
@@ -75,7 +76,8 @@ pub(crate) fn stand(run: Run, flagged: u8, e: Entry) -> Run
     let marks = live_marks(e.day, run.latest, run.marks);
     let count = run.count + 1;
     let standing = run.standing + 1;
-    let doubt = mark_of(run.marks, e.value);
+    let near = near_marks(e.day, run.latest, run.marks);
+    let doubt = mark_of(near, e.value);
     let doubts = run.doubts + doubt;
     Run {
         marks,

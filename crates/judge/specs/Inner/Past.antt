@@ -34,6 +34,10 @@ marksOf (e ∷ es) =
     (liveMarks (e .day) (latestDay (withdrawn es)) (marksOf es))
     (cond (isWithdrawn e) (markOn (marksOf es) (e .value)) (marksOf es))
 
+-- those that a read of a day may have: none, where it is after every withdrawn one
+unfoldable pub nearMarks : ℕ → ℕ → ℕ → ℕ
+nearMarks day latest marks = cond (ltb latest day) 0 marks
+
 -- an entry has the day and the value of a withdrawn one before it, if it stands, and of a standing one, if it is withdrawn
 unfoldable pub clashes : Entry → List Entry → Bool
 clashes e es =
@@ -44,7 +48,7 @@ clashes e es =
 unfoldable pub doubtOf : Entry → List Entry → ℕ
 doubtOf e es =
     cond (isStanding e)
-    (markOf (marksOf es) (e .value))
+    (markOf (nearMarks (e .day) (latestDay (withdrawn es)) (marksOf es)) (e .value))
     (cond (isWithdrawn e && leb (e .day) (lastDay es)) 1 0)
 
 -- how many of the entries may

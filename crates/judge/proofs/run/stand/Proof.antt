@@ -17,22 +17,27 @@ add-count c = search needs
 add-standing : tie.Need-add-standing
 add-standing c = search needs
 
+near-marks-requires : tie.Need-near-marks-requires
+near-marks-requires c κs = search needs
+
 mark-of-requires : tie.Need-mark-of-requires
 mark-of-requires c κs = search needs
 
 add-doubts : tie.Need-add-doubts
 add-doubts c =
     let marked = c .before in
-    let start = marked .before .before .before .before in
-    omega (arith, marked .mark-of .ensures, mark-small (start .args .run .marks) (start .args .e .value), start .pre .0, start .pre .2)
+    let near = marked .before in
+    let start = near .before .before .before .before in
+    omega (arith, marked .mark-of .ensures, mark-small (near .near-marks .result) (start .args .e .value), start .pre .0, start .pre .2)
 
 returns : tie.Need-returns
 returns c =
     let marked = c .before in
-    let live = marked .before .before .before in
-    (refl, λ es s flagged h. rw (run-more, ← h, s, stands-unwithdrawn _ s, flagged, live .live-marks .ensures, marked .mark-of .ensures))
+    let near = marked .before in
+    let live = near .before .before .before in
+    (refl, λ es s flagged h. rw (run-more, ← h, s, stands-unwithdrawn _ s, flagged, live .live-marks .ensures, marked .mark-of .ensures, near .near-marks .ensures))
 
 pub stand-spec : {M : Type 1} → statement M
 stand-spec =
     tie.close
-    (tie.spec live-marks-requires add-count add-standing mark-of-requires add-doubts returns)
+    (tie.spec live-marks-requires add-count add-standing near-marks-requires mark-of-requires add-doubts returns)
