@@ -115,3 +115,40 @@ fn sound_journals_of_unusual_shape() {
         assert_eq!(report(&with_area(9, &bytes), 9).number, Number::Accepted, "{shape}");
     }
 }
+
+/// 25 standing reads and 24 withdrawn ones between their days. All values have the same remainder by 64, so that no mark
+/// tells them apart.
+fn standing_and_withdrawn() -> (Vec<[u8; 10]>, Vec<[u8; 10]>) {
+    let standing = (1..25).map(|k| entry(STANDING, 100 + 10 * k, 10 + 64 * u32::from(k), b'C', 0, 0));
+    let withdrawn = (1..25).map(|k| entry(WITHDRAWN, 105 + 10 * k, 10 + 64 * u32::from(k), b'C', 0, 0));
+    ([first()].into_iter().chain(standing).collect(), withdrawn.collect())
+}
+
+/// The withdrawn reads after the first, after all that stand, and by turns.
+fn orders(standing: &[[u8; 10]], withdrawn: &[[u8; 10]]) -> [Vec<[u8; 10]>; 3] {
+    let turns = standing[1..].iter().zip(withdrawn).flat_map(|(stands, gone)| [*gone, *stands]);
+    [
+        [&standing[..1], withdrawn, &standing[1..]].concat(),
+        [standing, withdrawn].concat(),
+        [standing[0]].into_iter().chain(turns).collect(),
+    ]
+}
+
+#[test]
+fn each_withdrawn_read_is_held_against_each_standing_one() {
+    let (standing, withdrawn) = standing_and_withdrawn();
+    let number = |entries: &[[u8; 10]]| report(&with_area(9, &area(entries)), 9).number;
+    for (k, stands) in (0..withdrawn.len()).flat_map(|k| standing.iter().map(move |stands| (k, stands))) {
+        // The day alone, the value alone, and both.
+        for (same, expected) in [(1..3, Number::Accepted), (3..7, Number::Accepted), (1..7, Number::Damaged)] {
+            let mut changed = withdrawn.clone();
+            changed[k][same.clone()].copy_from_slice(&stands[same.clone()]);
+            if same == (1..3) {
+                changed[k][3] ^= 1;
+            }
+            for entries in orders(&standing, &changed) {
+                assert_eq!(number(&entries), expected, "withdrawn {k} with bytes {same:?} of {stands:?}");
+            }
+        }
+    }
+}
