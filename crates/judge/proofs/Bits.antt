@@ -1,5 +1,5 @@
 -- A mark set stays set, and the value that set it is marked. The letters of the plain entries.
-use mathlib.Core.Path.{_≡_, refl, ap, _∙_}
+use mathlib.Core.Path.{_≡_, refl, sym, ap, _∙_}
 use mathlib.Core.Bool.{Bool, true, false, not, _&&_, _||_}
 use Prim.Native.Nat.{ℕ, zero, suc, _+_, _-_, _*_, _/_, _%_, _^_, _≤_, _<_}
 use native.Mathlib.Nat.{mod-lt, mod-eq-of-lt, div-self, zero-div, one-mul}
@@ -37,6 +37,13 @@ then-marked marks v =
     let k = v % 64 in
     let own : 2 ^ k / 2 ^ k % 2 ≡ 1 = ap (λ (n : ℕ). n % 2) (div-self (pow-pos k)) in
     eq-eqb _ _ (ap (λ (n : ℕ). n / 2 ^ k % 2) (or-comm marks (2 ^ k)) ∙ set-left (2 ^ k) marks k own)
+
+-- a value with no mark is not the one that marked last, and had none before
+pub unmarked : (marks w v : ℕ) → isMarked (markOn marks w) v ≡ false → (w ≡ v → ⊥) × (isMarked marks v ≡ false)
+unmarked marks w v u = (λ e. false-is (sym u ∙ rw e (then-marked marks v)), cases (isMarked marks v) refl) where
+  cases : (b : Bool) → isMarked marks v ≡ b → isMarked marks v ≡ false
+  cases true e = false-is (sym u ∙ stays-marked marks w v e)
+  cases false e = e
 
 pub no-mark : (v : ℕ) → markOf 0 v ≡ 0
 unfolding markOf

@@ -1,5 +1,5 @@
 -- What is kept of the withdrawn reads: where it says no, no standing read has the day and the value of one of them.
-use mathlib.Core.Path.{_≡_, refl, sym, _∙_}
+use mathlib.Core.Path.{_≡_, refl}
 use mathlib.Core.Bool.{Bool, true, false, not, _&&_, _||_, cond, and-false}
 use mathlib.Core.List.{List, [], _∷_}
 use Prim.Native.Nat.{ℕ, _≤_, _<_}
@@ -14,10 +14,10 @@ use Rattle.journal.specs.Journal.{standing, withdrawn, heldOf}
 use Rattle.journal.specs.Sound.{any, every, hasRead, daysRise, isLater, isFinalRead, isInRange, isRead, areInOrder, areApart}
 use Rattle.journal.specs.Inner.Follow.{mayFollow}
 use Rattle.journal.specs.Inner.Loops.{dayOf}
-use Rattle.judge.specs.Inner.Marks.{markOf, isMarked, markOn}
+use Rattle.judge.specs.Inner.Marks.{markOf, isMarked}
 use Rattle.judge.specs.Inner.Past.{latestDay, lastDay, liveMarks, nearMarks, marksOf, clashes, doubtOf, doubtsIn}
-use Rattle.journal.proofs.Bools.{false-is, both}
-use Rattle.judge.proofs.Bits.{stays-marked, then-marked, mark-small}
+use Rattle.journal.proofs.Bools.{both}
+use Rattle.judge.proofs.Bits.{unmarked, mark-small}
 use Rattle.judge.proofs.Clashes.{stands-unwithdrawn, apart-more, none-as-late, none-stands}
 use Rattle.journal.proofs.InOrder.{in-order-more, days-rise}
 
@@ -46,12 +46,6 @@ module _ (day value : ℕ) where
   abbrev None : List Entry → Type 0
   None es = daysRise (standing es) ≡ true → lastDay es < day → isMarked (marksOf es) value ≡ false → any (hasRead day value) (withdrawn es) ≡ false
 
-  unmarked : (marks w : ℕ) → isMarked (markOn marks w) value ≡ false → (w ≡ value → ⊥) × (isMarked marks value ≡ false)
-  unmarked marks w u = (λ e. false-is (sym u ∙ rw e (then-marked marks value)), cases (isMarked marks value) refl) where
-    cases : (b : Bool) → isMarked marks value ≡ b → isMarked marks value ≡ false
-    cases true e = false-is (sym u ∙ stays-marked marks w value e)
-    cases false e = e
-
   -- one that stands: later marks are those before it, or all withdrawn reads are past
   stands-more : (e : Entry) (es : List Entry) → isStanding e ≡ true → None es → None (e ∷ es)
   unfolding those marksOf liveMarks dayOf slotAt
@@ -68,7 +62,7 @@ module _ (day value : ℕ) where
   others-more : (w : Bool) (e : Entry) (es : List Entry) → isStanding e ≡ false → isWithdrawn e ≡ w → None es → None (e ∷ es)
   unfolding those marksOf any hasRead
   others-more true e es s w none r l u =
-      let free = unmarked (marksOf es) (e .value) (rw (s, w) at u) in
+      let free = unmarked (marksOf es) (e .value) value (rw (s, w) at u) in
       rw (w, ne-eqb (e .value) value (free .0), and-false) (none (rw s at r) (rw s at l) (free .1))
   others-more false e es s w none r l u = rw w (none (rw s at r) (rw s at l) (rw (s, w) at u))
 

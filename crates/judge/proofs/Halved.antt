@@ -1,7 +1,7 @@
--- The standing entries by their places: one place more, and what halving finds.
+-- The standing entries by their places: one place more, what halving finds, and what their marks rule out.
 use mathlib.Core.Path.{_≡_, refl, sym, _∙_}
 use mathlib.Core.Bool.{Bool, true, false, not, _&&_, and-false}
-use mathlib.Core.List.{List}
+use mathlib.Core.List.{List, [], _∷_}
 use Prim.Native.Nat.{ℕ, zero, suc, _+_, _-_, _≤_, _<_}
 use native.Mathlib.Numerals.{add-one}
 use native.Mathlib.Omega.{arith}
@@ -16,9 +16,11 @@ use Rattle.register.specs.Entries.{entryStart, entryAt}
 use Rattle.journal.specs.Journal.{entriesTo, withdrawn}
 use Rattle.journal.specs.Sound.{any, every, hasRead, areApart, daysRise, isLater}
 use Rattle.journal.specs.Inner.Loops.{dayOf}
-use Rattle.judge.specs.Inner.Halving.{placedAt, placed, Places, Between}
+use Rattle.judge.specs.Inner.Halving.{placedAt, placed, Places, Between, valueMarks}
+use Rattle.judge.specs.Inner.Marks.{isMarked}
 use Rattle.journal.proofs.Bools.{both, or-none}
 use Rattle.journal.proofs.Entries.{those-more}
+use Rattle.judge.proofs.Bits.{unmarked}
 use Rattle.judge.proofs.Clashes.{none-stands}
 
 -- ---- one place more
@@ -108,6 +110,14 @@ module _ (body places : List ℕ) where
           let less : low < n = omega arith in
           let later : placedAt body places n .day ≡ day → ⊥ = λ same. omega (arith, earlier n low r less) in
           rw (of-another-day (placedAt body places n) later) (rest less)
+
+-- ---- a value that none of them marked
+pub none-valued : (day value : ℕ) (ss : List Entry) → isMarked (valueMarks ss) value ≡ false → any (hasRead day value) ss ≡ false
+unfolding valueMarks any hasRead
+none-valued day value [] u = refl
+none-valued day value (s ∷ ss) u =
+    let free = unmarked (valueMarks ss) (s .value) value u in
+    rw (ne-eqb (s .value) value (free .0), and-false) (none-valued day value ss (free .1))
 
 -- ---- the halving itself
 module _ {body places : List ℕ} {n day : ℕ} where

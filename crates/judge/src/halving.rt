@@ -8,8 +8,11 @@ ghost use Rattle.register.specs.Entries.{entryStart};
 ghost use Rattle.journal.specs.Journal.{entriesTo, standing, withdrawn};
 ghost use Rattle.journal.specs.Sound.{any, hasRead, daysRise, areApart};
 ghost use Rattle.journal.specs.Inner.Loops.{dayOf};
-ghost use Rattle.judge.specs.Inner.Halving.{placed, Places, Inside, Between};
+ghost use Rattle.judge.specs.Inner.Halving.{placed, Places, Inside, Between, valueMarks};
+use crate::marks::is_marked;
+use crate::marks::mark;
 use crate::read::entry_at;
+use crate::read::long_at;
 use crate::read::word_at;
 use journal::order::has_read;
 use journal::order::is_withdrawn;
@@ -43,23 +46,39 @@ fn note_standing(body: &[u8], m: u8, places: &mut [u8; Room::PLACES]) -> u8
     n
 }
 
-// The first of n places whose entry is not before a day, and n where each is.
+// A mark for the value of each entry at n places.
+fn marks_over(body: &[u8], places: &[u8; Room::PLACES], n: u8) -> u64
+    requires { ⌜ Inside (now body) (now places) n ⌝ }
+    ensures { λ r. ⌜ r ≡ valueMarks (placed (now (body .entry)) (now (places .entry)) n) ⌝ }
+{
+    let mut marks: u64 = 0;
+    let mut i: u8 = 0;
+    while i < n {
+        let k = places[i as usize];
+        let value = long_at(body, Layout::ENTRY_BYTES * (k as usize) + 3);
+        marks = mark(marks, value);
+        i += 1;
+    }
+    marks
+}
+
+// The first of n places whose entry is not before a day, and n where each is. Bounds as wide as an index spare each step the widening.
 fn first_from(body: &[u8], places: &[u8; Room::PLACES], n: u8, day: u16) -> u8
     requires { ⌜ Inside (now body) (now places) n ⌝ }
     ensures { λ r. ⌜ Between (now (body .entry)) (now (places .entry)) n day r r ⌝ }
 {
-    let mut low: u8 = 0;
-    let mut high = n;
+    let mut low: usize = 0;
+    let mut high = n as usize;
     while low < high {
         let middle = low + (high - low) / 2;
-        let k = places[middle as usize];
+        let k = places[middle];
         if word_at(body, Layout::ENTRY_BYTES * (k as usize) + 1) < day {
             low = middle + 1;
         } else {
             high = middle;
         }
     }
-    low
+    low as u8
 }
 
 // One of the entries at n places has this day and value. Only the first one from the day on can be of that day.
@@ -75,17 +94,29 @@ fn is_placed(body: &[u8], places: &[u8; Room::PLACES], n: u8, day: u16, value: u
     has_read(day, value, entry_at(body, places[i as usize]))
 }
 
-// A withdrawn entry that has the day and the value of a standing one. One that is later than the last of these has not, since days rise.
-fn stands_again(body: &[u8], places: &[u8; Room::PLACES], n: u8, last: u16, e: Entry) -> bool
+// A withdrawn entry that has the day and the value of a standing one. One that is later than the last of these has not, since days rise, nor
+// has one whose value none of them marked.
+fn stands_again(
+    body: &[u8],
+    places: &[u8; Room::PLACES],
+    n: u8,
+    last: u16,
+    marks: u64,
+    e: Entry,
+) -> bool
     requires { ⌜ Inside (now body) (now places) n ⌝ }
     requires { ⌜ daysRise (placed (now body) (now places) n) ≡ true ⌝ }
     requires { ⌜ last ≡ dayOf (slotAt (placed (now body) (now places) n) 0) ⌝ }
+    requires { ⌜ marks ≡ valueMarks (placed (now body) (now places) n) ⌝ }
     ensures { λ r. ⌜ r ≡ isWithdrawn e && any (hasRead (e .day) (e .value)) (placed (now (body .entry)) (now (places .entry)) n) ⌝ }
 {
     if !is_withdrawn(e) {
         return false;
     }
     if last < e.day {
+        return false;
+    }
+    if !is_marked(marks, e.value) {
         return false;
     }
     is_placed(body, places, n, e.day, e.value)
@@ -100,9 +131,10 @@ pub(crate) fn are_apart(body: &[u8], m: u8, last: u16) -> bool
 {
     let mut places = [0; Room::PLACES];
     let n = note_standing(body, m, &mut places);
+    let marks = marks_over(body, &places, n);
     let mut k: u8 = 0;
     while k < m {
-        if stands_again(body, &places, n, last, entry_at(body, k)) {
+        if stands_again(body, &places, n, last, marks, entry_at(body, k)) {
             return false;
         }
         k += 1;

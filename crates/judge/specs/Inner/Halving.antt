@@ -6,6 +6,7 @@ use lib.ListN.{length, getD}
 use Rattle.terms.specs.declared.entry.Entry.{Entry}
 use Rattle.register.specs.Entries.{entryStart, entryAt}
 use Rattle.journal.specs.Journal.{entriesTo, standing}
+use Rattle.judge.specs.Inner.Marks.{markOn}
 
 -- the entry of a body at a place
 abbrev pub placedAt : List ℕ → List ℕ → ℕ → Entry
@@ -15,6 +16,11 @@ placedAt body places i = entryAt body (entryStart (getD places i 0))
 unfoldable pub placed : List ℕ → List ℕ → ℕ → List Entry
 placed body places zero = []
 placed body places (suc n) = placedAt body places n ∷ placed body places n
+
+-- a mark for the value of each
+unfoldable pub valueMarks : List Entry → ℕ
+valueMarks [] = 0
+valueMarks (s ∷ ss) = markOn (valueMarks ss) (s .value)
 
 -- n places are those of the standing ones among the first m entries
 pub record Places (body : List ℕ) (m : ℕ) (places : List ℕ) (n : ℕ) : Type 0 where

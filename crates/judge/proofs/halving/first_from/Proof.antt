@@ -1,7 +1,6 @@
 -- The middle is from `low` on and before `high`, and its day says which of the two moves there.
 use Prim.Native.Nat.{ℕ, _+_, _-_, _/_, _≤_}
 use native.Mathlib.Omega.{arith}
-use borrow.Author.Needs.{needs}
 use lib.ListN.{length, getD}
 use Rattle.register.specs.Entries.{entryStart, entryAt}
 use Rattle.judge.specs.Inner.Halving.{Between}
@@ -30,9 +29,6 @@ sub-middle c = omega arith
 
 add-middle : tie.Need-add-middle Inv-loop μ-loop
 add-middle c = omega arith
-
-cast-k : tie.Need-cast-k Inv-loop μ-loop
-cast-k c = search needs
 
 element-copy-out-k : tie.Need-element-copy-out-k Inv-loop μ-loop
 element-copy-out-k c = omega arith
@@ -70,6 +66,9 @@ loop-again-2 c =
     let at = c .before .before .before in
     between-down (at .before .loop .inv) (middle at) (omega arith) (omega arith) (rw (c .before .word-at .ensures) at (c .if1 .left))
 
+cast-result : tie.Need-cast-result Inv-loop μ-loop
+cast-result c = omega arith
+
 returns : tie.Need-returns Inv-loop μ-loop
 returns c = between-met (c .before .loop .inv) (c .loop-test .left)
 
@@ -82,7 +81,6 @@ first-from-spec =
     loop-holds
     sub-middle
     add-middle
-    cast-k
     element-copy-out-k
     cast-word-at
     mul-word-at
@@ -93,4 +91,5 @@ first-from-spec =
     loop-again
     loop-less-2
     loop-again-2
+    cast-result
     returns)
