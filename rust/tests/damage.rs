@@ -4,6 +4,7 @@ mod common;
 
 use common::*;
 use necktureen::{journal, report, Call, Number};
+use std::ops::Range;
 
 fn first() -> [u8; 10] {
     entry(STANDING, 100, 10, b'I', 0, 0)
@@ -64,7 +65,6 @@ fn damaged() -> Vec<(&'static str, Vec<u8>)> {
         ),
     ];
     let mut past_the_end = area(&[first()]);
-    past_the_end[26] = 0;
     past_the_end[27] = 1;
     all.push(("a byte after the zero that ends the journal", past_the_end));
     let mut entry_past_the_end = area(&[first()]);
@@ -116,6 +116,11 @@ fn sound_journals_of_unusual_shape() {
     }
 }
 
+/// The bytes of an entry's day, of its value, and of both.
+const DAY: Range<usize> = 1..3;
+const VALUE: Range<usize> = 3..7;
+const BOTH: Range<usize> = 1..7;
+
 /// 25 standing reads and 24 withdrawn ones between their days. All values have the same remainder by 64, so that no mark
 /// tells them apart.
 fn standing_and_withdrawn() -> (Vec<[u8; 10]>, Vec<[u8; 10]>) {
@@ -135,16 +140,16 @@ fn orders(standing: &[[u8; 10]], withdrawn: &[[u8; 10]]) -> [Vec<[u8; 10]>; 3] {
 }
 
 #[test]
-fn each_withdrawn_read_is_held_against_each_standing_one() {
+fn each_withdrawn_read_is_compared_with_each_standing_one() {
     let (standing, withdrawn) = standing_and_withdrawn();
     let number = |entries: &[[u8; 10]]| report(&with_area(9, &area(entries)), 9).number;
     for (k, stands) in (0..withdrawn.len()).flat_map(|k| standing.iter().map(move |stands| (k, stands))) {
-        // The day alone, the value alone, and both.
-        for (same, expected) in [(1..3, Number::Accepted), (3..7, Number::Accepted), (1..7, Number::Damaged)] {
+        for (same, expected) in [(DAY, Number::Accepted), (VALUE, Number::Accepted), (BOTH, Number::Damaged)] {
             let mut changed = withdrawn.clone();
             changed[k][same.clone()].copy_from_slice(&stands[same.clone()]);
-            if same == (1..3) {
-                changed[k][3] ^= 1;
+            if same == DAY {
+                // 4,096 more is the value of no standing read, and has the same remainder by 64.
+                changed[k][4] += 16;
             }
             for entries in orders(&standing, &changed) {
                 assert_eq!(number(&entries), expected, "withdrawn {k} with bytes {same:?} of {stands:?}");

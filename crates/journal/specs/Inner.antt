@@ -1,3 +1,3 @@
--- What only proofs and inner contracts need: how the loops over a body go about it.
+-- What only proofs and inner contracts need: whether an entry may follow those before it.
 pub mod Follow
 pub mod Loops

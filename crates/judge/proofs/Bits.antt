@@ -27,11 +27,11 @@ or-one (suc (suc y)) h = absurd (omega arith)
 set-left : (a b k : ℕ) → a / 2 ^ k % 2 ≡ 1 → bitOr a b / 2 ^ k % 2 ≡ 1
 set-left a b k h = or-bit a b k ∙ ap (λ (n : ℕ). bitOr n (b / 2 ^ k % 2)) h ∙ or-one (b / 2 ^ k % 2) (mod-lt (b / 2 ^ k) (omega arith))
 
-pub stays-marked : (marks w v : ℕ) → isMarked marks v ≡ true → isMarked (markOn marks w) v ≡ true
+stays-marked : (marks w v : ℕ) → isMarked marks v ≡ true → isMarked (markOn marks w) v ≡ true
 unfolding markOf markOn
 stays-marked marks w v h = eq-eqb _ _ (set-left marks (2 ^ (w % 64)) (v % 64) (eqb-true _ _ h))
 
-pub then-marked : (marks v : ℕ) → isMarked (markOn marks v) v ≡ true
+then-marked : (marks v : ℕ) → isMarked (markOn marks v) v ≡ true
 unfolding markOf markOn
 then-marked marks v =
     let k = v % 64 in

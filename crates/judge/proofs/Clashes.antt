@@ -59,7 +59,7 @@ unfolding those clashes
 apart-more e es = apart-kept e (isStanding e) (isWithdrawn e) (standing es) (withdrawn es) (stands-unwithdrawn e)
 
 -- ---- when nothing need be compared
-pub later-both : (a b n : ℕ) → laterOf a b < n → (a < n) × (b < n)
+later-both : (a b n : ℕ) → laterOf a b < n → (a < n) × (b < n)
 later-both a b n h = cases (ltb a b) refl where
   cases : (t : Bool) → ltb a b ≡ t → (a < n) × (b < n)
   cases true e =

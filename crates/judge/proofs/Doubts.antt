@@ -22,7 +22,7 @@ use Rattle.judge.proofs.Clashes.{stands-unwithdrawn, apart-more, none-a
 use Rattle.journal.proofs.InOrder.{in-order-more, days-rise}
 
 -- ---- the standing reads before one more
-pub rise-less : (b : Bool) (e : Entry) (ss : List Entry) → daysRise (keepIf b e ss) ≡ true → daysRise ss ≡ true
+rise-less : (b : Bool) (e : Entry) (ss : List Entry) → daysRise (keepIf b e ss) ≡ true → daysRise ss ≡ true
 unfolding daysRise
 rise-less true e [] r = refl
 rise-less true e (s ∷ ss) r = both (isLater e s) (daysRise (s ∷ ss)) r .1
@@ -75,7 +75,7 @@ module _ (day value : ℕ) where
   none-marked [] r l u = refl
   none-marked (e ∷ es) r l u = one-more (isStanding e) e es refl (none-marked es) r l u
 
-  pub none-near : (es : List Entry) → daysRise (standing es) ≡ true → lastDay es < day → markOf (nearMarks day (latestDay (withdrawn es)) (marksOf es)) value ≡ 0 → any (hasRead day value) (withdrawn es) ≡ false
+  none-near : (es : List Entry) → daysRise (standing es) ≡ true → lastDay es < day → markOf (nearMarks day (latestDay (withdrawn es)) (marksOf es)) value ≡ 0 → any (hasRead day value) (withdrawn es) ≡ false
   unfolding nearMarks
   none-near es r l u = cases (ltb (latestDay (withdrawn es)) day) refl where
     cases : (b : Bool) → ltb (latestDay (withdrawn es)) day ≡ b → any (hasRead day value) (withdrawn es) ≡ false

@@ -84,7 +84,7 @@ unfolding passOf
 open-pass run is op = record { same = rw (← is, op .stands, op .unheld, op .first-is, op .ended-is, op .ordered); ordered = op .ordered }
 
 -- ---- where the pass starts, and where it has passed all
-pub pass-start : (head : Head) (body : List ℕ) (p : Pass) → p ≡ passOf head [] → (p .run .count ≡ 0) × IsPass head body p
+pass-start : (head : Head) (body : List ℕ) (p : Pass) → p ≡ passOf head [] → (p .run .count ≡ 0) × IsPass head body p
 unfolding passOf runOf areInOrder every daysRise opensRight hasOneFinal isHeldRight those entriesTo
 pass-start head body p h =
     let none : p .run .count ≡ 0 = ap (λ (q : Pass). q .run .count) h in
@@ -100,7 +100,7 @@ all-passed head body p limits same is ends goes =
     let all : p .run .count ≡ countFrom (mostEntries head) 0 body = sym same ∙ sym ends ∙ goes ∙ ap (λ (m : ℕ). countFrom m 0 body) (limits .most) in
     record { ordered = ap (λ (q : Pass). q .ordered) (is .same) ∙ ap (λ (n : ℕ). areInOrder head (entriesTo n body)) all; count = λ h. all; pass = λ h. is }
 
-pub start-goes : (most : ℕ) (body : List ℕ) → countFrom (most - 0) 0 body ≡ countFrom most 0 body
+start-goes : (most : ℕ) (body : List ℕ) → countFrom (most - 0) 0 body ≡ countFrom most 0 body
 start-goes most body =
     let e : most - 0 ≡ most = omega arith in
     rw e
@@ -135,7 +135,7 @@ module _ {head : Head} {l : Limits} {e : Entry} (limits : IsLimits head l) (firs
   unfolding followsBy standsBy opens
   first-follows = rw (read-is, first .stands, first .opening, first .flag, opening-is (e .letter) (first .opening) .1)
 
-  pub first-open : IsOpen head (e .value) false (e ∷ [])
+  first-open : IsOpen head (e .value) false (e ∷ [])
   unfolding areInOrder every any those heldOf isThere slotAt dayOf firstValue daysRise opensRight hasOneFinal isHeldRight
   first-open =
       record {

@@ -96,7 +96,7 @@ module _ {run : Run} (es : List Entry) (is : run ≡ runOf es) where
   run-doubts = ap (λ (r : Run). r .doubts) is
 
 -- ---- a plain body may follow where a read stands and none is held
-pub withdrawn-unheld : (e : Entry) → isWithdrawn e ≡ true → isHeld e ≡ false
+withdrawn-unheld : (e : Entry) → isWithdrawn e ≡ true → isHeld e ≡ false
 unfolding isWithdrawn isHeld
 withdrawn-unheld e h = rw (eqb-true (e .kind) kindWithdrawn h)
 

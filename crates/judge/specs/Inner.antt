@@ -1,4 +1,4 @@
--- What only proofs and inner contracts need: how the loops over a body go about it.
+-- What only proofs and inner contracts need: how the loops over a body go about it, and what is counted of a sound journal.
 pub mod Marks
 pub mod Past
 pub mod Run

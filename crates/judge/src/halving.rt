@@ -1,4 +1,5 @@
-// Standing reads apart from withdrawn ones, with each withdrawn one looked up: standing days rise, so that halving finds the only one to compare it with.
+// Standing reads apart from withdrawn ones. Standing days rise, so that halving finds the only one that a withdrawn read has to be compared
+// with.
 ghost use mathlib.Core.Path.{_≡_};
 ghost use mathlib.Core.Bool.{true, _&&_};
 ghost use Prim.Native.Nat.{_≤_};
@@ -62,7 +63,8 @@ fn marks_over(body: &[u8], places: &[u8; Room::PLACES], n: u8) -> u64
     marks
 }
 
-// The first of n places whose entry is not before a day, and n where each is. Bounds as wide as an index spare each step the widening.
+// The first of n places whose entry is not before a day, and n where all are before it. Bounds as wide as an index spare each step the
+// widening.
 fn first_from(body: &[u8], places: &[u8; Room::PLACES], n: u8, day: u16) -> u8
     requires { ⌜ Inside (now body) (now places) n ⌝ }
     ensures { λ r. ⌜ Between (now (body .entry)) (now (places .entry)) n day r r ⌝ }

@@ -8,10 +8,11 @@ use register::head::Head;
 use register::head::most_entries;
 
 pub struct Limits {
-    // A bit for each letter from 64 to 127: those that neither open a journal nor end one.
+    // A bit for each letter from 64 to 127: those that the meter takes and that neither open a journal nor end one.
     pub letters: u64,
     // 10^n.
     pub limit: u32,
+    // The most entries that may follow the head.
     pub most: u8,
 }
 

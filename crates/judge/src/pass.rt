@@ -67,7 +67,7 @@ fn first_with(first: u32, opens: bool, e: Entry) -> u32
 }
 
 // One entry more, and whether it may follow.
-fn advance(pass: Pass, limit: u32, e: Entry) -> Pass
+fn pass_with(pass: Pass, limit: u32, e: Entry) -> Pass
     requires { ⌜ (pass .run .count < 255) × (pass .run .standing ≤ pass .run .count) × (pass .run .flagged ≤ pass .run .standing) × (pass .run .doubts ≤ pass .run .count) ⌝ }
     ensures { λ r. ⌜ ((head : Head) (es : List Entry) → limit ≡ tenTo (head .dials) → pass ≡ passOf head es → r ≡ passOf head (e ∷ es)) ⌝ }
 {
@@ -153,21 +153,6 @@ fn pass_plain(body: &[u8], limits: Limits, pass: Pass) -> Pass
     }
 }
 
-// The same, not in order.
-fn disordered(pass: Pass) -> Pass
-    ensures { λ r. ⌜ r .ordered ≡ false ⌝ }
-{
-    let run = pass.run;
-    Pass {
-        run,
-        first: pass.first,
-        ordered: false,
-        stands: pass.stands,
-        held: pass.held,
-        ended: pass.ended,
-    }
-}
-
 // Whether the entries of a body are in order, to the first zero kind byte. It ends at the first that is not.
 pub(crate) fn pass_over(body: &[u8], head: Head, limits: Limits) -> Pass
     requires { ⌜ (entryStart (limits .most) ≤ length (now body)) × IsLimits head limits ⌝ }
@@ -181,9 +166,9 @@ pub(crate) fn pass_over(body: &[u8], head: Head, limits: Limits) -> Pass
         if e.kind == 0 {
             return pass;
         }
-        let next = advance(pass, limits.limit, e);
+        let next = pass_with(pass, limits.limit, e);
         if !next.ordered {
-            return disordered(next);
+            return next;
         }
         pass = pass_plain(body, limits, next);
         let run = pass.run;

@@ -33,10 +33,11 @@ pub struct Run {
     pub latest: u16,
     // The day of the last standing read.
     pub day: u16,
-    // How many entries were passed, how many of them stand, how many of these are flagged, and how many come before the last of these.
+    // How many entries were passed, how many of them stand, and how many of these are flagged.
     pub count: u8,
     pub standing: u8,
     pub flagged: u8,
+    // How many entries come before the last standing one.
     pub newest: u8,
     // How many entries may have the day and the value of one before them, where one of the two stands and the other is withdrawn.
     pub doubts: u8,

@@ -91,7 +91,7 @@ module _ (a : List ℕ) (t : Summary) (is : Counted a t) where
   unfolding summaryOf
   latest-is = ap (λ (u : Summary). u .latest) (is .summary)
 
-  pub marks-are : t .marks ≡ marksOf (journalOf a .entries)
+  marks-are : t .marks ≡ marksOf (journalOf a .entries)
   unfolding summaryOf
   marks-are = ap (λ (u : Summary). u .marks) (is .summary)
 
@@ -124,7 +124,7 @@ module _ (a : List ℕ) (t : Summary) (is : Counted a t) where
     pub newest-room : hasRoom a (t .head) (suc (t .counts .newest)) ≡ true
     newest-room = room-is a (t .head) (suc (t .counts .newest)) (is .long) (omega (arith, few, newest-of .0))
 
-    pub last-stands : standing (journalOf a .entries) ≡ entryAt body (entryStart (t .counts .newest)) ∷ standing (entriesTo (t .counts .newest) body)
+    last-stands : standing (journalOf a .entries) ≡ entryAt body (entryStart (t .counts .newest)) ∷ standing (entriesTo (t .counts .newest) body)
     last-stands = rw in-body (newest-of .1)
 
     -- the same of what is lent

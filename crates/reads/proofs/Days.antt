@@ -18,7 +18,7 @@ use Rattle.journal.proofs.Bools.{both, or-none}
 use Rattle.judge.proofs.Clashes.{none-stands}
 
 -- ---- the reads before one
-pub rise-before : (s : Entry) (ss : List Entry) → daysRise (s ∷ ss) ≡ true → daysRise ss ≡ true
+rise-before : (s : Entry) (ss : List Entry) → daysRise (s ∷ ss) ≡ true → daysRise ss ≡ true
 unfolding daysRise
 rise-before s [] r = refl
 rise-before s (t ∷ ss) r = both (isLater s t) (daysRise (t ∷ ss)) r .1

@@ -12,6 +12,7 @@ use crate::read::entry_at;
 use crate::recent::last;
 use crate::room::has_entry;
 use crate::room::has_room;
+use journal::order::has_read;
 use judge::area::Summary;
 use judge::marks::is_marked;
 use register::head::head_bytes;
@@ -71,12 +72,6 @@ pub fn has_standing(area: &[u8], t: Summary, day: u16, value: u32) -> bool
         Slot::Read(e) => e.value == value,
         Slot::Empty => false,
     }
-}
-
-fn has_read(day: u16, value: u32, e: Entry) -> bool
-    ensures { λ r. ⌜ r ≡ hasRead day value e ⌝ }
-{
-    (e.day == day) & (e.value == value)
 }
 
 // One of the first m entries is withdrawn with this day and value.

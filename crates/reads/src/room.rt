@@ -1,4 +1,4 @@
-// Whether entries can be read at all, for any bytes and any summary.
+// Whether entries can be read at all, for any bytes and any head.
 ghost use mathlib.Core.Path.{_≡_};
 ghost use Prim.Native.Nat.{suc};
 ghost use Rattle.reads.specs.Inner.Room.{hasRoom, slotIn};
@@ -16,7 +16,7 @@ pub(crate) fn has_room(area: &[u8], head: Head, m: u8) -> bool
     (area.len() == Layout::AREA_BYTES) & (m <= most_entries(head))
 }
 
-// The entry after k others is.
+// The entry after k others is within the area. It is no `has_room` of k + 1, which may not fit a byte.
 pub(crate) fn has_entry(area: &[u8], head: Head, k: u8) -> bool
     ensures { λ r. ⌜ r ≡ hasRoom (now (area .entry)) head (suc k) ⌝ }
 {

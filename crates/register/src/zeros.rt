@@ -60,7 +60,7 @@ fn block_at(lanes: Lanes, bytes: &[u8], i: usize) -> Lanes
     }
 }
 
-// The same for few bytes, one by one.
+// Every byte from a place on is zero: one by one, for few bytes.
 fn few_zero_from(bytes: &[u8], from: usize) -> bool
     ensures { λ r. ⌜ r ≡ allZero (drop from (now (bytes .entry))) ⌝ }
 {

@@ -78,7 +78,7 @@ fn weigh(s: Submission, t: Summary, recent: Recent, flag: u8) -> Decision
     refused(number)
 }
 
-// 17 and 18, or the flag with which the volume is checked.
+// 17 to 21, or 0: what is asked once the read is in order. The volume is checked with the flag that detection and indicator give.
 fn judge(s: Submission, t: Summary, recent: Recent) -> Decision
     ensures { λ r. ⌜ ((j : Journal) → t ≡ summaryOf j → recent ≡ recentOf (standing (j .entries)) → r ≡ decidedIn s j (firstBroken (judgedRules s j))) ⌝ }
 {
@@ -90,7 +90,7 @@ fn judge(s: Submission, t: Summary, recent: Recent) -> Decision
     }
 }
 
-// Every rule that a sound journal is asked, and of its entries no more than a rule needs.
+// Every rule that a sound journal is asked, group by group, with the entries that the group needs.
 fn decide_sound(area: &[u8], s: Submission, t: Summary) -> Decision
     requires { ⌜ Counted (now area) t ⌝ }
     ensures { λ r. ⌜ r ≡ decidedIn s (journalOf (now (area .entry))) (firstBroken (submitRules s (journalOf (now (area .entry))))) ⌝ }

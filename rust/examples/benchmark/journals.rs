@@ -13,6 +13,8 @@ const FIRST_DAY: u16 = 1000;
 const DAYS: u16 = 180;
 /// The letters of the reads after the opening one, in turn.
 const LETTERS: [u8; 8] = *b"CURTSXYE";
+/// How many reads were dated ahead, where some were.
+const AHEAD: usize = 24;
 const METER_BYTES: usize = 6;
 const ENTRY_BYTES: usize = 10;
 
@@ -24,13 +26,10 @@ pub enum Withdrawn {
     EverySecond,
     /// Misreads after the first read.
     AllButFirst,
-    /// The reads after the first, as many as stand, first sent half a round too late: all of them were withdrawn before
-    /// they were sent again.
+    /// 24 reads after the first were sent with a day that is half a round ahead, and all of them withdrawn before they
+    /// were sent again.
     DatedAhead,
 }
-
-/// How many reads were dated ahead.
-const AHEAD: usize = 24;
 
 impl Withdrawn {
     /// How many of a journal's first entries stand.

@@ -44,14 +44,14 @@ clashes e es =
     (isStanding e && any (hasRead (e .day) (e .value)) (withdrawn es))
     || (isWithdrawn e && any (hasRead (e .day) (e .value)) (standing es))
 
--- 1 where it may, by what is kept, and else 0: never 0 wrongly, while standing days rise
+-- 1 where an entry may clash, by what is kept, and else 0: never 0 wrongly, while standing days rise
 unfoldable pub doubtOf : Entry → List Entry → ℕ
 doubtOf e es =
     cond (isStanding e)
     (markOf (nearMarks (e .day) (latestDay (withdrawn es)) (marksOf es)) (e .value))
     (cond (isWithdrawn e && leb (e .day) (lastDay es)) 1 0)
 
--- how many of the entries may
+-- how many of the entries may clash
 unfoldable pub doubtsIn : List Entry → ℕ
 doubtsIn [] = 0
 doubtsIn (e ∷ es) = doubtsIn es + doubtOf e es

@@ -81,40 +81,38 @@ module _ (c : tie.Else2 Inv-loop μ-loop) where
   least : k + 1 ≤ countFrom (mostEntries (start loop .args .head)) 0 (body loop)
   least = omega (arith, count-past _ _ _ goes-on, ap (λ (m : ℕ). countFrom m 0 (body loop)) (limits-are loop .most))
 
-advance-requires : tie.Need-advance-requires Inv-loop μ-loop
-advance-requires c κs =
+pass-with-requires : tie.Need-pass-with-requires Inv-loop μ-loop
+pass-with-requires c κs =
     let p = loop c in
     let small = run-small (p .loop .pass .run) _ _ (pass-run _ _ (passed p .same)) in
     (omega (arith, p .loop .inv .0, c .before .before .before .if1 .taken), small .1, small .2, small .3)
 
-disordered-requires : tie.Need-disordered-requires Inv-loop μ-loop
-disordered-requires c κs = search needs
-
 -- ---- the entry judged
-module _ (c : tie.After-advance Inv-loop μ-loop) where
+module _ (c : tie.After-pass-with Inv-loop μ-loop) where
   abbrev at : tie.Else2 Inv-loop μ-loop
   at = c .before
 
-  next-is : (head : Head) → IsLimits head (start (loop at) .args .limits) → c .advance .result ≡ passOf head (at .before .before .entry-at .result ∷ entriesTo (k at) (body (loop at)))
-  next-is head limits = c .advance .ensures head _ (limits .limit) (loop at .loop .inv .2 head limits .same)
+  next-is : (head : Head) → IsLimits head (start (loop at) .args .limits) → c .pass-with .result ≡ passOf head (at .before .before .entry-at .result ∷ entriesTo (k at) (body (loop at)))
+  next-is head limits = c .pass-with .ensures head _ (limits .limit) (loop at .loop .inv .2 head limits .same)
 
-  count-is : c .advance .result .run .count ≡ k at + 1
+  count-is : c .pass-with .result .run .count ≡ k at + 1
   count-is = let l = loop at in pass-count (start l .args .head) _ (k at) (body l) _ (next-is (start l .args .head) (limits-are l))
 
 returns-2 : tie.Need-returns-2 Inv-loop μ-loop
 returns-2 c =
-    let judged = c .before .before .before in
+    let judged = c .before .before in
     let e = at judged in
     let l = loop e in
-    let ends = entry-ends (start l .args .head) (body l) _ (k e) (read-is e) _ (least e) _ (next-is judged (start l .args .head) (limits-are l)) (not-true _ (c .before .if3 .taken)) in
-    record { ordered = c .disordered .ensures ∙ sym ends; count = λ h. false-is (sym (c .disordered .ensures) ∙ h); pass = λ h. false-is (sym (c .disordered .ensures) ∙ h) }
+    let bad = not-true _ (c .if3 .taken) in
+    let ends = entry-ends (start l .args .head) (body l) _ (k e) (read-is e) _ (least e) _ (next-is judged (start l .args .head) (limits-are l)) bad in
+    record { ordered = bad ∙ sym ends; count = λ h. false-is (sym bad ∙ h); pass = λ h. false-is (sym bad ∙ h) }
 
 -- one entry on
 module _ (c : tie.Else3 Inv-loop μ-loop) where
-  abbrev judged : tie.After-advance Inv-loop μ-loop
+  abbrev judged : tie.After-pass-with Inv-loop μ-loop
   judged = c .before .before
 
-  next-passed : (head : Head) → IsLimits head (start (loop (at judged)) .args .limits) → IsPass head (body (loop (at judged))) (judged .advance .result)
+  next-passed : (head : Head) → IsLimits head (start (loop (at judged)) .args .limits) → IsPass head (body (loop (at judged))) (judged .pass-with .result)
   next-passed head limits = entry-pass head (body (loop (at judged))) _ (k (at judged)) (read-is (at judged)) _ (next-is judged head limits) (not-false _ (c .if3 .left)) (count-is judged)
 
 pass-plain-requires : tie.Need-pass-plain-requires Inv-loop μ-loop
@@ -152,8 +150,7 @@ pass-over-spec =
     loop-holds
     entry-at-requires
     returns
-    advance-requires
-    disordered-requires
+    pass-with-requires
     returns-2
     pass-plain-requires
     loop-less

@@ -1,8 +1,8 @@
 -- What one more entry changes is `pass-more`.
 use Rattle.judge.proofs.Passes.{pass-more, pass-run}
 use borrow.Author.Needs.{needs}
-use Rattle.judge.proofs.pass.advance.Statement.{statement}
-use Rattle.judge.proofs.pass.advance.Tie as tie
+use Rattle.judge.proofs.pass.pass_with.Statement.{statement}
+use Rattle.judge.proofs.pass.pass_with.Tie as tie
 
 may-follow-requires : tie.Need-may-follow-requires
 may-follow-requires c κs = search needs
@@ -42,8 +42,8 @@ returns c =
       final .is-final .ensures,
     )
 
-pub advance-spec : {M : Type 1} → statement M
-advance-spec =
+pub pass-with-spec : {M : Type 1} → statement M
+pass-with-spec =
     tie.close
     (tie.spec
     may-follow-requires
