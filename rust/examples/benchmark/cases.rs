@@ -25,8 +25,9 @@ fn row(made: Made, case: &'static str, entries: usize, expected: Number) -> Row 
 }
 
 /// The journals with withdrawn entries.
-const WITHDRAWN: [(&str, Withdrawn); 3] = [
+const WITHDRAWN: [(&str, Withdrawn); 4] = [
     ("accepted, every second entry withdrawn", Withdrawn::EverySecond),
+    ("accepted, every second entry withdrawn, remainders alike", Withdrawn::EverySecondAlike),
     ("accepted, all entries but the first withdrawn", Withdrawn::AllButFirst),
     ("accepted, half the entries dated ahead and withdrawn", Withdrawn::DatedAhead),
 ];

@@ -22,8 +22,10 @@ const ENTRY_BYTES: usize = 10;
 #[derive(Clone, Copy)]
 pub enum Withdrawn {
     None,
-    /// A misread before each read but the first.
+    /// A misread before each read but the first. None has the remainder by 64 of the read that it is a misread of.
     EverySecond,
+    /// The same, but each misread has that remainder, so that no mark tells the two apart.
+    EverySecondAlike,
     /// Misreads after the first read.
     AllButFirst,
     /// 24 reads after the first were sent with a day that is half a round ahead, and all of them withdrawn before they
@@ -36,7 +38,7 @@ impl Withdrawn {
     pub fn standing(self, entries: usize) -> usize {
         match self {
             Withdrawn::None => entries,
-            Withdrawn::EverySecond => entries.div_ceil(2),
+            Withdrawn::EverySecond | Withdrawn::EverySecondAlike => entries.div_ceil(2),
             Withdrawn::AllButFirst => entries.min(1),
             Withdrawn::DatedAhead => entries.min(1) + entries.saturating_sub(1 + AHEAD),
         }
@@ -78,6 +80,7 @@ pub fn register(entries: usize, withdrawn: Withdrawn) -> Vec<u8> {
         let (kind, day, value) = match withdrawn {
             _ if stands => (2, day(standing), value(standing)),
             Withdrawn::DatedAhead => (3, day(position) + DAYS / 2, value(position)),
+            Withdrawn::EverySecondAlike => (3, day(standing), value(standing) + 64),
             _ => (3, day(standing), value(standing) + 1 + position as u32),
         };
         write_entry(entry, kind, day, value, letter(standing));
