@@ -2,7 +2,7 @@
 use mathlib.Core.Path.{_≡_, refl, sym, ap, _∙_}
 use mathlib.Core.Bool.{Bool, true, false, not, _&&_, _||_}
 use Prim.Native.Nat.{ℕ, zero, suc, _+_, _-_, _*_, _/_, _%_, _^_, _≤_, _<_}
-use native.Mathlib.Nat.{mod-lt, mod-eq-of-lt, div-self, zero-div, one-mul}
+use native.Mathlib.Nat.{mod-lt, mod-eq-of-lt, div-self, one-mul}
 use native.Mathlib.Omega.{arith}
 use borrow.Author.Tests.{eqb-true, eq-eqb, leb-true, leb-false, not-true}
 use lib.Bits.{bitOr, or-shr, or-mod, or-comm}
@@ -44,16 +44,6 @@ unmarked marks w v u = (λ e. false-is (sym u ∙ rw e (then-marked marks v)), c
   cases : (b : Bool) → isMarked marks v ≡ b → isMarked marks v ≡ false
   cases true e = false-is (sym u ∙ stays-marked marks w v e)
   cases false e = e
-
-pub no-mark : (v : ℕ) → markOf 0 v ≡ 0
-unfolding markOf
-no-mark v = rw (zero-div (2 ^ (v % 64)))
-
-pub mark-small : (marks v : ℕ) → markOf marks v ≤ 1
-unfolding markOf
-mark-small marks v =
-    let small : marks / 2 ^ (v % 64) % 2 < 2 = mod-lt (marks / 2 ^ (v % 64)) (omega arith) in
-    omega arith
 
 -- the bit as a shift of 64 bits has it
 pub bit-shifted : (v : ℕ) → (1 * 2 ^ (v % 64)) % 18446744073709551616 ≡ 2 ^ (v % 64)

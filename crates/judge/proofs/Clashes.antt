@@ -1,17 +1,18 @@
--- Standing reads apart from withdrawn ones: what one entry more adds, and when nothing need be compared.
+-- Standing reads apart from withdrawn ones: what one entry more adds, and which entries clash with none.
 use mathlib.Core.Path.{_≡_, refl, sym, _∙_}
 use mathlib.Core.Bool.{Bool, true, false, not, _&&_, _||_}
 use mathlib.Core.List.{List, [], _∷_}
 use Prim.Native.Nat.{ℕ, _<_}
 use native.Mathlib.Omega.{arith}
-use borrow.Author.Tests.{ltb-true, ltb-false, eqb-true, eqb-false, eq-eqb, ne-eqb}
-use lib.Dec.{eqb, ltb}
+use borrow.Author.Tests.{ltb-true, eqb-true, eqb-false, eq-eqb, ne-eqb}
+use lib.Dec.{eqb}
 use Rattle.terms.specs.declared.entry.Entry.{Entry}
 use Rattle.terms.specs.Entry.{kindStanding, kindWithdrawn, isStanding, isWithdrawn, keepIf, those, slotAt}
 use Rattle.journal.specs.Journal.{standing, withdrawn}
 use Rattle.journal.specs.Sound.{any, every, hasRead, areApart, daysRise, isLater}
 use Rattle.journal.specs.Inner.Loops.{dayOf}
-use Rattle.judge.specs.Inner.Past.{laterOf, latestDay, clashes}
+use Rattle.judge.specs.Inner.Index.{clashes}
+use Rattle.judge.specs.Inner.Run.{lastDay}
 use Rattle.journal.proofs.Bools.{false-is, both, or-none}
 
 -- ---- one entry more
@@ -59,26 +60,7 @@ unfolding those clashes
 apart-more e es = apart-kept e (isStanding e) (isWithdrawn e) (standing es) (withdrawn es) (stands-unwithdrawn e)
 
 -- ---- when nothing need be compared
-later-both : (a b n : ℕ) → laterOf a b < n → (a < n) × (b < n)
-later-both a b n h = cases (ltb a b) refl where
-  cases : (t : Bool) → ltb a b ≡ t → (a < n) × (b < n)
-  cases true e =
-      let last : b < n = rw e at h in
-      (omega (arith, ltb-true a b e), last)
-  cases false e =
-      let last : a < n = rw e at h in
-      (last, omega (arith, ltb-false a b e))
-
 module _ (day value : ℕ) where
-  -- a day after every withdrawn one
-  pub none-as-late : (ws : List Entry) → latestDay ws < day → any (hasRead day value) ws ≡ false
-  unfolding any hasRead latestDay
-  none-as-late [] l = refl
-  none-as-late (w ∷ ws) l =
-      let days = later-both (latestDay ws) (w .day) day l in
-      let other : w .day ≡ day → ⊥ = λ e. omega (arith, days .1) in
-      rw (ne-eqb (w .day) day other) (none-as-late ws (days .0))
-
   -- a day after every standing one
   pub none-stands : (ss : List Entry) → daysRise ss ≡ true → dayOf (slotAt ss 0) < day → any (hasRead day value) ss ≡ false
   unfolding any hasRead daysRise dayOf slotAt
@@ -91,3 +73,20 @@ module _ (day value : ℕ) where
       let falls : t .day < s .day = ltb-true _ _ (c .0) in
       let other : s .day ≡ day → ⊥ = λ e. omega arith in
       rw (ne-eqb (s .day) day other) (none-stands (t ∷ ss) (c .1) (omega arith))
+
+-- ---- an entry that clashes with none
+module _ (e : Entry) (es : List Entry) where
+  pub free-standing : isStanding e ≡ true → any (hasRead (e .day) (e .value)) (withdrawn es) ≡ false → clashes e es ≡ false
+  unfolding clashes
+  free-standing s none = rw (s, stands-unwithdrawn e s, none)
+
+  pub free-withdrawn : isWithdrawn e ≡ true → daysRise (standing es) ≡ true → lastDay es < e .day → clashes e es ≡ false
+  unfolding clashes
+  free-withdrawn w rises later = rw (w, withdrawn-unstanding e w, none-stands (e .day) (e .value) (standing es) rises later)
+
+  pub free-other : isStanding e ≡ false → isWithdrawn e ≡ false → clashes e es ≡ false
+  unfolding clashes
+  free-other s w = rw (s, w)
+
+  pub stays-apart : clashes e es ≡ false → areApart (standing es) (withdrawn es) ≡ true → areApart (standing (e ∷ es)) (withdrawn (e ∷ es)) ≡ true
+  stays-apart free old = rw (apart-more e es, free, old)

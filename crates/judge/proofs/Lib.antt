@@ -1,6 +1,6 @@
 pub mod Bits
 pub mod Clashes
-pub mod Doubts
+pub mod Indexes
 pub mod Halved
 pub mod Runs
 pub mod Passes

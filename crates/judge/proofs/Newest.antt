@@ -94,13 +94,11 @@ kept-all head (e ∷ es) h =
     kept-one (isStanding e) (isWithdrawn e) (isHeld e) e (those isKept es) es before kind (held-only e)
 
 -- ---- the summary of a pass
-pub summary-is : (head : Head) (es : List Entry) (p : Pass) {keeps last limit : ℕ} → p ≡ passOf head es → areInOrder head es ≡ true → keeps ≡ cond (p .held) (p .run .count - 1) (p .run .count) → last ≡ valueOf (slotAt (standing es) 0) → limit ≡ tenTo (head .dials) → _≡_ {A = Summary} (record {
+pub summary-is : (head : Head) (es : List Entry) (p : Pass) {keeps last limit : ℕ} → p ≡ passOf head (p .apart) es → areInOrder head es ≡ true → keeps ≡ cond (p .held) (p .run .count - 1) (p .run .count) → last ≡ valueOf (slotAt (standing es) 0) → limit ≡ tenTo (head .dials) → _≡_ {A = Summary} (record {
   head = head;
-  counts = record { kept = keeps; standing = p .run .standing; flagged = p .run .flagged; first = p .first; newest = p .run .newest };
+  counts = record { kept = keeps; standing = p .run .standing; flagged = p .run .flagged; first = p .run .first; newest = p .run .newest };
   last = last;
   day = p .run .day;
-  latest = p .run .latest;
-  marks = p .run .marks;
   limit = limit;
   entries = p .run .count;
   ended = p .ended;

@@ -7,6 +7,8 @@ use native.Mathlib.Numerals.{add-one}
 use native.Mathlib.Omega.{arith}
 use borrow.Author.Tests.{eqb-true, ne-eqb, lt-ltb}
 use lib.Dec.{eqb}
+use lib.ListN.{length}
+use Rattle.arithmetic.specs.Powers.{tenTo}
 use Rattle.terms.specs.declared.entry.Entry.{Entry}
 use Rattle.terms.specs.Letter.{letterI, letterO, isKnown, isOpening, isFinal}
 use Rattle.terms.specs.Entry.{isStanding, isHeld, those, slotAt}
@@ -17,96 +19,152 @@ use Rattle.judge.specs.declared.limits.Limits.{Limits}
 use Rattle.judge.specs.declared.pass.Pass.{Pass}
 use Rattle.judge.specs.declared.run.Run.{Run}
 use Rattle.register.specs.Head.{mostEntries}
-use Rattle.journal.specs.Journal.{entriesTo, countFrom, standing, heldOf, isThere, firstValue}
-use Rattle.journal.specs.Sound.{every, any, isFinalRead, holds, takes, opens, isInRange, isRead, daysRise, opensRight, hasOneFinal, isHeldRight, areInOrder}
+use Rattle.register.proofs.Body.{head-room}
+use Rattle.journal.specs.Journal.{entriesTo, countFrom, standing, withdrawn, heldOf, isThere}
+use Rattle.journal.specs.Sound.{every, any, isFinalRead, holds, takes, opens, isInRange, isRead, daysRise, opensRight, hasOneFinal, isHeldRight, areInOrder, areApart}
 use Rattle.journal.specs.Inner.Loops.{standsBy, followsBy, dayOf}
-use Rattle.judge.specs.Inner.Past.{doubtsIn}
+use Rattle.judge.specs.Inner.Index.{crowded}
 use Rattle.judge.specs.Inner.Run.{runOf}
 use Rattle.judge.specs.Inner.Plain.{IsLimits, IsOpen, RunsTo}
-use Rattle.judge.specs.Inner.Pass.{passOf, IsPass, IsPassed, First, Starts}
-use Rattle.journal.proofs.Entries.{any-kept, one-more, length-entries, count-on}
+use Rattle.judge.specs.Inner.Pass.{passOf, IsPass, IsPassed, First, Starts, PassesTo, IsClear, GoesOn}
+use Rattle.journal.proofs.Bools.{false-is, both}
+use Rattle.journal.proofs.Entries.{any-kept, one-more, length-entries, count-on, count-past, count-from-most}
 use Rattle.journal.proofs.InOrder.{in-order-more, by-numbers, days-rise, stands-unheld, disordered-stays}
-use Rattle.judge.proofs.Runs.{there-kept, first-kept, held-there}
+use Rattle.judge.proofs.Clashes.{stands-unwithdrawn, stays-apart}
+use Rattle.judge.proofs.Runs.{there-counted, held-there}
 
-pub pass-more : (head : Head) (e : Entry) (es : List Entry) → passOf head (e ∷ es) ≡ record {
+pub pass-more : (head : Head) (before after : Bool) (e : Entry) (es : List Entry) → passOf head after (e ∷ es) ≡ record {
   run = runOf (e ∷ es);
-  first = cond (isStanding e && not (passOf head es .stands)) (e .value) (passOf head es .first);
-  ordered = followsBy head e (passOf head es .stands) (passOf head es .run .day) (passOf head es .held) (passOf head es .ended) && passOf head es .ordered;
-  stands = isStanding e || passOf head es .stands;
+  ordered = followsBy head e (not (eqb (passOf head before es .run .standing) 0)) (passOf head before es .run .day) (passOf head before es .held) (passOf head before es .ended) && passOf head before es .ordered;
   held = isHeld e;
-  ended = (isStanding e && isFinalRead e) || passOf head es .ended;
+  ended = (isStanding e && isFinalRead e) || passOf head before es .ended;
+  apart = after;
 }
 unfolding passOf runOf those heldOf
-pass-more head e es = simp (in-order-more, by-numbers, first-kept, there-kept, held-there, any-kept)
+pass-more head before after e es = simp (in-order-more, by-numbers, there-counted, held-there, any-kept)
 
-pub pass-run : {p : Pass} (head : Head) (es : List Entry) → p ≡ passOf head es → p .run ≡ runOf es
+pub pass-run : {p : Pass} (head : Head) (clear : Bool) (es : List Entry) → p ≡ passOf head clear es → p .run ≡ runOf es
 unfolding passOf
-pass-run head es h = ap (λ (q : Pass). q .run) h
+pass-run head clear es h = ap (λ (q : Pass). q .run) h
+
+pub pass-order : {p : Pass} (head : Head) (clear : Bool) (es : List Entry) → p ≡ passOf head clear es → p .ordered ≡ areInOrder head es
+unfolding passOf
+pass-order head clear es h = ap (λ (q : Pass). q .ordered) h
 
 -- ---- one entry on
-module _ (head : Head) (body : List ℕ) (e : Entry) (k : ℕ) (read : e ≡ entryAt body (entryStart k)) where
+module _ (body : List ℕ) (e : Entry) (p q : Pass) (run : p .run ≡ runOf (entriesTo (p .run .count) body)) (read : e ≡ entryAt body (entryStart (p .run .count))) (more-run : (es : List Entry) → p .run ≡ runOf es → q .run ≡ runOf (e ∷ es)) where
   abbrev es : List Entry
-  es = entriesTo k body
+  es = entriesTo (p .run .count) body
 
-  on : entriesTo (k + 1) body ≡ e ∷ es
-  on = rw (one-more k body, ← read)
+  counted : q .run ≡ runOf (e ∷ es)
+  counted = more-run es run
 
-  order-is : (p : Pass) → p ≡ passOf head (e ∷ es) → areInOrder head (entriesTo (k + 1) body) ≡ p .ordered
-  unfolding passOf
-  order-is p same = rw on (sym (ap (λ (q : Pass). q .ordered) same))
+  pub entry-count : q .run .count ≡ p .run .count + 1
+  unfolding runOf
+  entry-count = ap (λ (r : Run). r .count) counted ∙ rw (length-entries (p .run .count) body, add-one)
 
-  -- one that may follow
-  pub entry-pass : (p : Pass) → p ≡ passOf head (e ∷ es) → p .ordered ≡ true → p .run .count ≡ k + 1 → IsPass head body p
-  entry-pass p same order count =
-      record {
-        same = same ∙ ap (λ (xs : List Entry). passOf head xs) (sym (ap (λ (n : ℕ). entriesTo n body) count ∙ on));
-        ordered = rw count (order-is p same ∙ order);
-      }
+  on : entriesTo (q .run .count) body ≡ e ∷ es
+  on = rw (entry-count, one-more (p .run .count) body, ← read)
 
-  -- one that may not ends it
-  pub entry-ends : (m : ℕ) → k + 1 ≤ m → (p : Pass) → p ≡ passOf head (e ∷ es) → p .ordered ≡ false → areInOrder head (entriesTo m body) ≡ false
-  entry-ends m le p same bad = disordered-stays head body (k + 1) m le (order-is p same ∙ bad)
+  module _ {l : Limits} (small : p .run .count < l .most) (clear : Bool) (both-apart : q .apart ≡ p .apart && clear) (free : IsClear body (p .run) e clear) (more : (head : Head) (es : List Entry) → l .limit ≡ tenTo (head .dials) → p ≡ passOf head (p .apart) es → q ≡ passOf head (q .apart) (e ∷ es)) where
+    module _ (head : Head) (limits : IsLimits head l) (is : IsPass head body p) where
+      same : q ≡ passOf head (q .apart) (entriesTo (q .run .count) body)
+      same = more head es (limits .limit) (is .same) ∙ ap (λ (xs : List Entry). passOf head (q .apart) xs) (sym on)
+
+      apart-is : q .apart ≡ true → areApart (standing (e ∷ es)) (withdrawn (e ∷ es)) ≡ true
+      apart-is h =
+          let parts = both (p .apart) clear (sym both-apart ∙ h) in
+          stays-apart e es (free (parts .1) run (days-rise head es (is .ordered))) (is .apart (parts .0))
+
+      entry-pass : q .ordered ≡ true → IsPass head body q
+      entry-pass h =
+          record {
+            same = same;
+            ordered = sym (pass-order head (q .apart) (entriesTo (q .run .count) body) same) ∙ h;
+            apart = λ c. rw on (apart-is c);
+          }
+
+    pub entry-on : GoesOn body l p q
+    entry-on =
+        record {
+          more = omega (arith, entry-count);
+          few = omega (arith, entry-count);
+          goes = λ some. rw entry-count (count-on (l .most) (p .run .count) body small some);
+          run-is = rw on counted;
+          pass = entry-pass;
+          ends = λ head limits is h. sym (pass-order head (q .apart) (entriesTo (q .run .count) body) (same head limits is)) ∙ h;
+        }
 
 -- ---- the pass and what is open
-pub pass-open : {head : Head} {body : List ℕ} (p : Pass) → IsPass head body p → p .stands ≡ true → p .held ≡ false → IsOpen head (p .first) (p .ended) (entriesTo (p .run .count) body)
-unfolding passOf
-pass-open p is s h =
+pub pass-open : {head : Head} {body : List ℕ} (p : Pass) → IsPass head body p → (p .run .standing ≡ 0 → ⊥) → p .held ≡ false → IsOpen head (p .ended) (p .apart) (entriesTo (p .run .count) body)
+unfolding passOf runOf
+pass-open {head} {body} p is some h =
+    let es = entriesTo (p .run .count) body in
+    let counted : p .run .standing ≡ length (standing es) = ap (λ (q : Pass). q .run .standing) (is .same) in
     record {
       ordered = is .ordered;
-      stands = sym (ap (λ (q : Pass). q .stands) (is .same)) ∙ s;
+      stands = rw (there-counted, ← counted, ne-eqb (p .run .standing) 0 some);
       unheld = sym (ap (λ (q : Pass). q .held) (is .same)) ∙ h;
-      first-is = sym (ap (λ (q : Pass). q .first) (is .same));
       ended-is = sym (ap (λ (q : Pass). q .ended) (is .same));
+      apart = is .apart;
     }
 
-pub open-pass : {head : Head} {body : List ℕ} {first : ℕ} {ended : Bool} (run : Run) → run ≡ runOf (entriesTo (run .count) body) → IsOpen head first ended (entriesTo (run .count) body) → IsPass head body (record { run = run; first = first; ordered = true; stands = true; held = false; ended = ended })
+pub open-pass : {head : Head} {body : List ℕ} {ended clear : Bool} (run : Run) → run ≡ runOf (entriesTo (run .count) body) → IsOpen head ended clear (entriesTo (run .count) body) → IsPass head body (record { run = run; ordered = true; held = false; ended = ended; apart = clear })
 unfolding passOf
-open-pass run is op = record { same = rw (← is, op .stands, op .unheld, op .first-is, op .ended-is, op .ordered); ordered = op .ordered }
+open-pass run is op = record { same = rw (← is, op .unheld, op .ended-is, op .ordered); ordered = op .ordered; apart = op .apart }
+
+-- what goes on is in order as long as it is a pass
+pub passes-on : {body : List ℕ} {l : Limits} {p q : Pass} → PassesTo body l p q → (q .run .count ≡ p .run .count → ⊥) → GoesOn body l p q
+passes-on to other =
+    record {
+      more = omega (arith, to .more);
+      few = to .few;
+      goes = λ some. to .goes;
+      run-is = to .run-is;
+      pass = λ head limits is h. to .pass head limits is;
+      ends = λ head limits is h. (let next = to .pass head limits is in sym (pass-order head _ _ (next .same)) ∙ h);
+    }
+
+-- one entry after none that was plain
+pub goes-after : {body : List ℕ} {l : Limits} {p q r : Pass} → PassesTo body l p q → q .run .count ≡ p .run .count → GoesOn body l q r → GoesOn body l p r
+goes-after {body} {l} {p} {q} {r} to same on =
+    record {
+      more = omega (arith, on .more);
+      few = on .few;
+      goes = λ some. to .goes ∙ on .goes (rw same some);
+      run-is = on .run-is;
+      pass = λ head limits is h. on .pass head limits (to .pass head limits is) h;
+      ends = λ head limits is h. on .ends head limits (to .pass head limits is) h;
+    }
 
 -- ---- where the pass starts, and where it has passed all
-pass-start : (head : Head) (body : List ℕ) (p : Pass) → p ≡ passOf head [] → (p .run .count ≡ 0) × IsPass head body p
-unfolding passOf runOf areInOrder every daysRise opensRight hasOneFinal isHeldRight those entriesTo
+pass-start : (head : Head) (body : List ℕ) (p : Pass) → p ≡ passOf head (p .apart) [] → (p .run .count ≡ 0) × IsPass head body p
+unfolding passOf runOf areInOrder areApart every daysRise opensRight hasOneFinal isHeldRight those entriesTo
 pass-start head body p h =
     let none : p .run .count ≡ 0 = ap (λ (q : Pass). q .run .count) h in
-    (none, record { same = h ∙ ap (λ (k : ℕ). passOf head (entriesTo k body)) (sym none); ordered = rw none })
-
-pub pass-count : (head : Head) (e : Entry) (k : ℕ) (body : List ℕ) (p : Pass) → p ≡ passOf head (e ∷ entriesTo k body) → p .run .count ≡ k + 1
-unfolding passOf runOf
-pass-count head e k body p h = ap (λ (q : Pass). q .run .count) h ∙ rw (length-entries k body, add-one)
+    (none, record { same = h ∙ ap (λ (k : ℕ). passOf head (p .apart) (entriesTo k body)) (sym none); ordered = rw none; apart = λ c. rw none })
 
 pub all-passed : (head : Head) (body : List ℕ) (p : Pass) {l : Limits} {at : ℕ} → IsLimits head l → at ≡ p .run .count → IsPass head body p → countFrom (l .most - at) at body ≡ at → countFrom (l .most - at) at body ≡ countFrom (l .most) 0 body → IsPassed head body p
-unfolding passOf
 all-passed head body p limits same is ends goes =
     let all : p .run .count ≡ countFrom (mostEntries head) 0 body = sym same ∙ sym ends ∙ goes ∙ ap (λ (m : ℕ). countFrom m 0 body) (limits .most) in
-    record { ordered = ap (λ (q : Pass). q .ordered) (is .same) ∙ ap (λ (n : ℕ). areInOrder head (entriesTo n body)) all; count = λ h. all; pass = λ h. is }
+    record { ordered = pass-order head (p .apart) (entriesTo (p .run .count) body) (is .same) ∙ ap (λ (n : ℕ). areInOrder head (entriesTo n body)) all; count = λ h. all; pass = λ h. is }
+
+-- the first that is not in order decides the whole
+pub never-passed : (head : Head) (body : List ℕ) (q : Pass) {l : Limits} → IsLimits head l → q .ordered ≡ false → areInOrder head (entriesTo (q .run .count) body) ≡ false → countFrom (l .most - q .run .count) (q .run .count) body ≡ countFrom (l .most) 0 body → IsPassed head body q
+never-passed head body q {l} limits bad disordered goes =
+    let least : q .run .count ≤ countFrom (mostEntries head) 0 body = omega (arith, count-past _ _ _ goes, ap (λ (m : ℕ). countFrom m 0 body) (limits .most)) in
+    let ends = disordered-stays head body (q .run .count) (countFrom (mostEntries head) 0 body) least disordered in
+    record { ordered = bad ∙ sym ends; count = λ h. false-is (sym bad ∙ h); pass = λ h. false-is (sym bad ∙ h) }
+
+pub passed-few : {head : Head} {body : List ℕ} {p : Pass} {l : Limits} → IsLimits head l → IsPassed head body p → p .ordered ≡ true → (p .run .count ≤ l .most) × (p .run .count < crowded)
+passed-few {head} {body} limits is order =
+    let most = count-from-most (mostEntries head) body in
+    (omega (arith, is .count order, most, limits .most), omega (arith, is .count order, most, head-room head))
 
 start-goes : (most : ℕ) (body : List ℕ) → countFrom (most - 0) 0 body ≡ countFrom most 0 body
 start-goes most body =
     let e : most - 0 ≡ most = omega arith in
     rw e
-
-pub next-goes : {most at k : ℕ} (body : List ℕ) → at < most → (byteAt body (entryStart at) ≡ 0 → ⊥) → countFrom (most - at) at body ≡ countFrom most 0 body → at ≡ k → countFrom (most - (k + 1)) (k + 1) body ≡ countFrom most 0 body
-next-goes {most} {at} body h some goes same = rw same at (sym (count-on most at body h some) ∙ goes)
 
 -- ---- the read that opens a journal
 opening-is : (l : ℕ) → isOpening l ≡ true → (isKnown l ≡ true) × (isFinal l ≡ false)
@@ -135,44 +193,55 @@ module _ {head : Head} {l : Limits} {e : Entry} (limits : IsLimits head l) (firs
   unfolding followsBy standsBy opens
   first-follows = rw (read-is, first .stands, first .opening, first .flag, opening-is (e .letter) (first .opening) .1)
 
-  first-open : IsOpen head (e .value) false (e ∷ [])
-  unfolding areInOrder every any those heldOf isThere slotAt dayOf firstValue daysRise opensRight hasOneFinal isHeldRight
+  first-open : IsOpen head false true (e ∷ [])
+  unfolding areInOrder areApart every any those heldOf isThere slotAt dayOf daysRise opensRight hasOneFinal isHeldRight
   first-open =
       record {
         ordered = rw (in-order-more head e [], by-numbers, first-follows);
         stands = rw (first .stands);
         unheld = rw (stands-unheld e (first .stands));
-        first-is = rw (first .stands);
         ended-is = rw (first .stands, opening-is (e .letter) (first .opening) .1);
+        apart = λ c. rw (stands-unwithdrawn e (first .stands));
       }
 
-pub start-zero : {run : Run} → run ≡ runOf [] → (run .count ≡ 0) × (run .standing ≡ 0) × (run .flagged ≡ 0) × (run .doubts ≡ 0)
-unfolding runOf those doubtsIn
-start-zero h = (ap (λ (r : Run). r .count) h, ap (λ (r : Run). r .standing) h, ap (λ (r : Run). r .flagged) h, ap (λ (r : Run). r .doubts) h)
+pub start-zero : {run : Run} → run ≡ runOf [] → (run .count ≡ 0) × (run .standing ≡ 0) × (run .flagged ≡ 0)
+unfolding runOf those
+start-zero h = (ap (λ (r : Run). r .count) h, ap (λ (r : Run). r .standing) h, ap (λ (r : Run). r .flagged) h)
 
 -- a pass that starts with nothing, and with the read that opens
 module _ (body : List ℕ) (l : Limits) where
-  pub starts-none : (p : Pass) → (p .run ≡ runOf []) × ((head : Head) → p ≡ passOf head []) → Starts body l p
-  unfolding runOf
+  pub starts-none : (p : Pass) → (p .run ≡ runOf []) × ((head : Head) → p ≡ passOf head (p .apart) []) → Starts body l p
+  unfolding runOf entriesTo those
   starts-none p h =
       let none : p .run .count ≡ 0 = ap (λ (r : Run). r .count) (h .0) in
       record {
         few = omega arith;
         goes = ap (λ (k : ℕ). countFrom (l .most - k) k body) none ∙ start-goes (l .most) body;
         pass = λ head limits. pass-start head body p (h .1 head) .1;
+        none = rw none;
       }
 
-  pub first-run : {e : Entry} (run : Run) → e ≡ entryAt body (entryStart 0) → run .count ≡ 1 → run ≡ runOf (e ∷ []) → run ≡ runOf (entriesTo (run .count) body)
-  unfolding entriesTo
-  first-run run read one is = is ∙ ap (λ (xs : List Entry). runOf xs) (sym (ap (λ (k : ℕ). entriesTo k body) one ∙ rw (← read)))
+  module _ {e : Entry} (read : e ≡ entryAt body (entryStart 0)) where
+    module _ (run : Run) (one : run .count ≡ 1) (is : run ≡ runOf (e ∷ [])) where
+      pub first-run : run ≡ runOf (entriesTo (run .count) body)
+      unfolding entriesTo
+      first-run = is ∙ ap (λ (xs : List Entry). runOf xs) (sym (ap (λ (k : ℕ). entriesTo k body) one ∙ rw (← read)))
 
-  pub starts-first : {e : Entry} {opened run : Run} → e ≡ entryAt body (entryStart 0) → First (l .limit) e → 0 < l .most → opened .count ≡ 1 → RunsTo body l opened run → Starts body l (record { run = run; first = e .value; ordered = true; stands = true; held = false; ended = false })
-  unfolding entriesTo entryAt isStanding
-  starts-first {e} {opened} {run} read first some one runs =
-      let kind : byteAt body (entryStart 0) ≡ 0 → ⊥ = λ z. (let k : e .kind ≡ 2 = eqb-true _ _ (first .stands) in let n : e .kind ≡ 0 = rw read z in omega arith) in
-      let on : entriesTo (opened .count) body ≡ e ∷ [] = ap (λ (k : ℕ). entriesTo k body) one ∙ rw (← read) in
-      record {
-        few = runs .few;
-        goes = sym (runs .goes) ∙ ap (λ (k : ℕ). countFrom (l .most - k) k body) one ∙ sym (count-on (l .most) 0 body some kind) ∙ start-goes (l .most) body;
-        pass = λ head limits. open-pass run (runs .run-is) (runs .opened head (e .value) false limits (rw on (first-open limits first)));
-      }
+      pub first-stands : isStanding e ≡ true → run .standing ≡ 0 → ⊥
+      unfolding runOf those
+      first-stands s none =
+          let counted : run .standing ≡ length (standing (e ∷ [])) = ap (λ (r : Run). r .standing) is in
+          let some : length (standing (e ∷ [])) ≡ 1 = rw s in
+          omega arith
+
+    pub starts-first : {opened run : Run} → First (l .limit) e → 0 < l .most → opened .count ≡ 1 → RunsTo body l opened run → (withdrawn (entriesTo (opened .count) body) ≡ [] → withdrawn (entriesTo (run .count) body) ≡ []) → Starts body l (record { run = run; ordered = true; held = false; ended = false; apart = true })
+    unfolding entriesTo entryAt isStanding those
+    starts-first {opened} {run} first some one runs none =
+        let kind : byteAt body (entryStart 0) ≡ 0 → ⊥ = λ z. (let k : e .kind ≡ 2 = eqb-true _ _ (first .stands) in let n : e .kind ≡ 0 = rw read z in omega arith) in
+        let on : entriesTo (opened .count) body ≡ e ∷ [] = ap (λ (k : ℕ). entriesTo k body) one ∙ rw (← read) in
+        record {
+          few = runs .few;
+          goes = sym (runs .goes) ∙ ap (λ (k : ℕ). countFrom (l .most - k) k body) one ∙ sym (count-on (l .most) 0 body some kind) ∙ start-goes (l .most) body;
+          pass = λ head limits. open-pass run (runs .run-is) (runs .opened head false true limits (rw on (first-open limits first)));
+          none = none (rw (on, stands-unwithdrawn e (first .stands)));
+        }

@@ -1,12 +1,12 @@
 -- Runs of plain entries: what is kept of one entry more, and that a journal that is open stays so.
-use mathlib.Core.Path.{_≡_, refl, ap, _∙_}
+use mathlib.Core.Path.{_≡_, refl, sym, ap, _∙_}
 use mathlib.Core.Bool.{Bool, true, false, not, _&&_, _||_, cond}
 use mathlib.Core.List.{List, [], _∷_}
-use Prim.Native.Nat.{ℕ, _+_, _-_, _≤_, _<_}
+use Prim.Native.Nat.{ℕ, suc, _+_, _-_, _≤_, _<_}
 use native.Mathlib.Numerals.{add-one}
 use native.Mathlib.Omega.{arith}
 use borrow.Author.Tests.{lt-ltb, le-leb, ne-eqb, eqb-true}
-use lib.Dec.{leb, ltb}
+use lib.Dec.{eqb}
 use lib.ListN.{length}
 use Rattle.terms.specs.declared.entry.Entry.{Entry}
 use Rattle.terms.specs.Entry.{kindWithdrawn, isStanding, isWithdrawn, isHeld, keepIf, those, slotAt}
@@ -16,18 +16,14 @@ use Rattle.register.specs.Bytes.{byteAt}
 use Rattle.register.specs.Entries.{entryStart, entryAt}
 use Rattle.judge.specs.declared.limits.Limits.{Limits}
 use Rattle.judge.specs.declared.run.Run.{Run}
-use Rattle.journal.specs.Journal.{entriesTo, standing, slotIf, heldOf, isThere, isFlagged, firstValue, newestAt}
-use Rattle.journal.specs.Sound.{any, isFinalRead, holds, isInRange, isRead, areInOrder}
+use Rattle.journal.specs.Journal.{entriesTo, standing, withdrawn, slotIf, heldOf, isThere, isFlagged, firstValue, newestAt}
+use Rattle.journal.specs.Sound.{any, isFinalRead, holds, isInRange, isRead, hasRead, areInOrder}
 use Rattle.journal.specs.Inner.Loops.{standsBy, followsBy, dayOf}
-use Rattle.judge.specs.Inner.Marks.{markOf, markOn}
-use Rattle.judge.specs.Inner.Past.{laterOf, latestDay, liveMarks, nearMarks, marksOf, doubtOf, doubtsIn}
-use Rattle.judge.specs.Inner.Run.{runOf, plainTo}
-use Rattle.judge.specs.Inner.Plain.{PlainLetter, IsLimits, PlainBody, Plain, IsOpen, OneOn, RunsTo}
-use Rattle.judge.proofs.Bits.{no-mark}
-use Rattle.judge.proofs.Doubts.{doubts-at-most}
-use Rattle.judge.proofs.Clashes.{stands-unwithdrawn, withdrawn-unstanding}
-use Rattle.journal.proofs.Entries.{any-kept, one-more, length-entries, those-at-most, count-on}
-use Rattle.journal.proofs.InOrder.{in-order-more, by-numbers, stands-unheld}
+use Rattle.judge.specs.Inner.Run.{lastDay, runOf, ranTo}
+use Rattle.judge.specs.Inner.Plain.{PlainLetter, IsLimits, PlainBody, IsOpen, OneOn, RunsTo}
+use Rattle.judge.proofs.Clashes.{stands-unwithdrawn, withdrawn-unstanding, free-standing, free-withdrawn, stays-apart}
+use Rattle.journal.proofs.Entries.{any-kept, one-more, those-more, length-entries, those-at-most, count-on}
+use Rattle.journal.proofs.InOrder.{in-order-more, by-numbers, days-rise, stands-unheld}
 
 -- ---- a list with one entry more, if the entry is kept
 length-kept : (b : Bool) (e : Entry) (es : List Entry) → length (keepIf b e es) ≡ cond b (length es + 1) (length es)
@@ -39,11 +35,6 @@ unfolding those
 flagged-kept true e es = length-kept (isFlagged e) e (those isFlagged es)
 flagged-kept false e es = refl
 
-latest-kept : (b : Bool) (e : Entry) (ws : List Entry) → latestDay (keepIf b e ws) ≡ cond b (laterOf (latestDay ws) (e .day)) (latestDay ws)
-unfolding latestDay
-latest-kept true e ws = refl
-latest-kept false e ws = refl
-
 pub there-kept : (b : Bool) (e : Entry) (ss : List Entry) → isThere (slotAt (keepIf b e ss) 0) ≡ b || isThere (slotAt ss 0)
 unfolding isThere slotAt
 there-kept true e ss = refl
@@ -54,11 +45,21 @@ unfolding dayOf slotAt
 day-kept true e ss = refl
 day-kept false e ss = refl
 
-pub first-kept : (b : Bool) (e : Entry) (ss : List Entry) → firstValue (keepIf b e ss) ≡ cond (b && not (isThere (slotAt ss 0))) (e .value) (firstValue ss)
-unfolding firstValue isThere slotAt
+-- a list that begins with an entry has some
+some : (s : Entry) (ss : List Entry) → eqb (length (s ∷ ss)) 0 ≡ false
+some s ss = ne-eqb (length (s ∷ ss)) 0 (λ z. absurd (omega arith))
+
+first-kept : (b : Bool) (e : Entry) (ss : List Entry) → firstValue (keepIf b e ss) ≡ cond (b && eqb (length ss) 0) (e .value) (firstValue ss)
+unfolding firstValue
 first-kept true e [] = refl
-first-kept true e (s ∷ ss) = refl
+first-kept true e (s ∷ ss) = rw (some s ss)
 first-kept false e ss = refl
+
+-- a read stands where their number is not 0
+pub there-counted : (ss : List Entry) → isThere (slotAt ss 0) ≡ not (eqb (length ss) 0)
+unfolding isThere slotAt
+there-counted [] = refl
+there-counted (s ∷ ss) = rw (some s ss)
 
 pub held-there : (b : Bool) (e : Entry) → isThere (slotIf b e Empty) ≡ b
 unfolding isThere
@@ -67,33 +68,26 @@ held-there false e = refl
 
 -- ---- what is kept
 pub run-more : (e : Entry) (es : List Entry) → runOf (e ∷ es) ≡ record {
-  marks = cond (isStanding e) (liveMarks (e .day) (runOf es .latest) (runOf es .marks)) (cond (isWithdrawn e) (markOn (runOf es .marks) (e .value)) (runOf es .marks));
-  latest = cond (isWithdrawn e) (laterOf (runOf es .latest) (e .day)) (runOf es .latest);
+  first = cond (isStanding e && eqb (runOf es .standing) 0) (e .value) (runOf es .first);
   day = cond (isStanding e) (e .day) (runOf es .day);
   count = runOf es .count + 1;
   standing = cond (isStanding e) (runOf es .standing + 1) (runOf es .standing);
   flagged = cond (isStanding e && isFlagged e) (runOf es .flagged + 1) (runOf es .flagged);
   newest = cond (isStanding e) (runOf es .count) (runOf es .newest);
-  doubts = runOf es .doubts + cond (isStanding e) (markOf (nearMarks (e .day) (runOf es .latest) (runOf es .marks)) (e .value)) (cond (isWithdrawn e && leb (e .day) (runOf es .day)) 1 0);
 }
-unfolding runOf those newestAt marksOf doubtOf doubtsIn
-run-more e es = simp (length-kept, flagged-kept, latest-kept, day-kept, ← add-one)
+unfolding runOf those newestAt
+run-more e es = simp (length-kept, flagged-kept, first-kept, day-kept, ← add-one)
 
 -- no count is more than that of the entries
-pub run-small : (run : Run) (k : ℕ) (a : List ℕ) → run ≡ runOf (entriesTo k a) → (run .count ≡ k) × (run .standing ≤ run .count) × (run .flagged ≤ run .standing) × (run .doubts ≤ run .count)
+pub run-small : (run : Run) (k : ℕ) (a : List ℕ) → run ≡ runOf (entriesTo k a) → (run .count ≡ k) × (run .standing ≤ run .count) × (run .flagged ≤ run .standing)
 unfolding runOf
 run-small run k a is =
     let es = entriesTo k a in
-    rw is (length-entries k a, omega (arith, those-at-most isStanding es), omega (arith, those-at-most isFlagged (standing es)), doubts-at-most es)
+    rw is (length-entries k a, omega (arith, those-at-most isStanding es), omega (arith, those-at-most isFlagged (standing es)))
 
-module _ {run : Run} (es : List Entry) (is : run ≡ runOf es) where
-  pub run-day : run .day ≡ dayOf (slotAt (standing es) 0)
-  unfolding runOf
-  run-day = ap (λ (r : Run). r .day) is
-
-  pub run-doubts : run .doubts ≡ doubtsIn es
-  unfolding runOf
-  run-doubts = ap (λ (r : Run). r .doubts) is
+pub run-day : {run : Run} (es : List Entry) → run ≡ runOf es → run .day ≡ lastDay es
+unfolding runOf
+run-day es is = ap (λ (r : Run). r .day) is
 
 -- ---- a plain body may follow where a read stands and none is held
 withdrawn-unheld : (e : Entry) → isWithdrawn e ≡ true → isHeld e ≡ false
@@ -126,22 +120,22 @@ module _ {head : Head} {l : Limits} {last : ℕ} {e : Entry} (is : IsLimits head
   unfolding followsBy isRead
   follows-withdrawn ended w = rw (withdrawn-unstanding e w, w, withdrawn-unheld e w, range-is)
 
-module _ {head : Head} {l : Limits} {e : Entry} {first : ℕ} {ended : Bool} (es : List Entry) (is : IsLimits head l) (b : PlainBody l (dayOf (slotAt (standing es) 0)) e) (op : IsOpen head first ended es) where
-  order-more : followsBy head e true (dayOf (slotAt (standing es) 0)) false (any isFinalRead (standing es)) ≡ true → areInOrder head (e ∷ es) ≡ true
+module _ {head : Head} {l : Limits} {e : Entry} {ended clear : Bool} (es : List Entry) (is : IsLimits head l) (b : PlainBody l (lastDay es) e) (op : IsOpen head ended clear es) where
+  order-more : followsBy head e true (lastDay es) false (any isFinalRead (standing es)) ≡ true → areInOrder head (e ∷ es) ≡ true
   order-more follows = rw (in-order-more, by-numbers, op .stands, op .unheld, follows) (op .ordered)
 
-  open-standing : isStanding e ≡ true → IsOpen head first ended (e ∷ es)
+  open-standing : isStanding e ≡ true → any (hasRead (e .day) (e .value)) (withdrawn es) ≡ false → IsOpen head ended clear (e ∷ es)
   unfolding those heldOf
-  open-standing s =
+  open-standing s none =
       record {
         ordered = order-more (follows-standing is b (any isFinalRead (standing es)) s);
         stands = rw (s, there-kept);
         unheld = rw (held-there, stands-unheld e s);
-        first-is = rw (s, first-kept true e (standing es), op .stands) (op .first-is);
         ended-is = rw (s, any-kept, letter-is is b .unending) (op .ended-is);
+        apart = λ c. stays-apart e es (free-standing e es s none) (op .apart c);
       }
 
-  open-withdrawn : isWithdrawn e ≡ true → IsOpen head first ended (e ∷ es)
+  open-withdrawn : isWithdrawn e ≡ true → IsOpen head ended clear (e ∷ es)
   unfolding those heldOf
   open-withdrawn w =
       let s = withdrawn-unstanding e w in
@@ -149,41 +143,41 @@ module _ {head : Head} {l : Limits} {e : Entry} {first : ℕ} {ended : Bool} (es
         ordered = order-more (follows-withdrawn is b (any isFinalRead (standing es)) w);
         stands = rw s (op .stands);
         unheld = rw (held-there, withdrawn-unheld e w);
-        first-is = rw s (op .first-is);
         ended-is = rw s (op .ended-is);
+        apart = λ c. stays-apart e es (free-withdrawn e es w (days-rise head es (op .ordered)) (b .later)) (op .apart c);
       }
 
 -- ---- one entry more in a run
-module _ {l : Limits} (run : Run) (e : Entry) (r : Run) (b : PlainBody l (run .day) e) (one : r .count ≡ run .count + 1) (more : (es : List Entry) → run ≡ runOf es → r ≡ runOf (e ∷ es)) where
-  body-of : (es : List Entry) → run ≡ runOf es → PlainBody l (dayOf (slotAt (standing es) 0)) e
+module _ {l : Limits} (es : List Entry) {run : Run} (e : Entry) {r : Run} (b : PlainBody l (run .day) e) (one : r .count ≡ run .count + 1) (more : run ≡ runOf es → r ≡ runOf (e ∷ es)) where
+  body-of : run ≡ runOf es → PlainBody l (lastDay es) e
   unfolding runOf
-  body-of es h = rw h at b
+  body-of h = rw h at b
 
-  pub stand-one : isStanding e ≡ true → OneOn l run e r
+  stand-one : isStanding e ≡ true → any (hasRead (e .day) (e .value)) (withdrawn es) ≡ false → OneOn l es run e r
   unfolding isStanding
-  stand-one s =
+  stand-one s none =
       record {
         count = one;
         kind = λ z. (let k : e .kind ≡ 2 = eqb-true _ _ s in omega arith);
         run-is = more;
-        opened = λ head first ended es is h op. open-standing es is (body-of es h) op s;
+        opened = λ head ended clear is h op. open-standing es is (body-of h) op s none;
       }
 
-  pub withdraw-one : isWithdrawn e ≡ true → OneOn l run e r
+  withdraw-one : isWithdrawn e ≡ true → OneOn l es run e r
   unfolding isWithdrawn
   withdraw-one w =
       record {
         count = one;
         kind = λ z. (let k : e .kind ≡ 3 = eqb-true _ _ w in omega arith);
         run-is = more;
-        opened = λ head first ended es is h op. open-withdrawn es is (body-of es h) op w;
+        opened = λ head ended clear is h op. open-withdrawn es is (body-of h) op w;
       }
 
 -- ---- runs
 pub runs-none : (body : List ℕ) (l : Limits) (run : Run) → run ≡ runOf (entriesTo (run .count) body) → run .count ≤ l .most → RunsTo body l run run
-runs-none body l run is few = record { more = omega arith; few = few; goes = refl; run-is = is; opened = λ head first ended limits op. op }
+runs-none body l run is few = record { more = omega arith; few = few; goes = refl; run-is = is; opened = λ head ended clear limits op. op }
 
-pub runs-one : {body : List ℕ} {l : Limits} {from run r : Run} {e : Entry} → RunsTo body l from run → run .count < l .most → e ≡ entryAt body (entryStart (run .count)) → OneOn l run e r → RunsTo body l from r
+pub runs-one : {body : List ℕ} {l : Limits} {from run r : Run} {e : Entry} → RunsTo body l from run → run .count < l .most → e ≡ entryAt body (entryStart (run .count)) → OneOn l (entriesTo (run .count) body) run e r → RunsTo body l from r
 unfolding entryAt
 runs-one {body} {l} {from} {run} {r} {e} runs h read one =
     let es = entriesTo (run .count) body in
@@ -194,34 +188,50 @@ runs-one {body} {l} {from} {run} {r} {e} runs h read one =
       more = omega (arith, runs .more);
       few = omega arith;
       goes = runs .goes ∙ rw n (count-on (l .most) (run .count) body h some);
-      run-is = rw on (one .run-is es (runs .run-is));
-      opened = λ head first ended limits op. rw on (one .opened head first ended es limits (runs .run-is) (runs .opened head first ended limits op));
+      run-is = rw on (one .run-is (runs .run-is));
+      opened = λ head ended clear limits op. rw on (one .opened head ended clear limits (runs .run-is) (runs .opened head ended clear limits op));
     }
 
--- ---- plain standing reads alone
-none-either : (b : Bool) → _≡_ {A = ℕ} (cond b 0 0) 0
-none-either true = refl
-none-either false = refl
+-- ---- a run over plain entries, with one more
+module _ {l : Limits} (es : List Entry) (e : Entry) (from : Run) (k day newest standing : ℕ) (b : PlainBody l day e) where
+  pub ran-standing : isStanding e ≡ true → (standing ≡ 0 → ⊥) → any (hasRead (e .day) (e .value)) (withdrawn es) ≡ false → OneOn l es (ranTo from k day newest standing) e (ranTo from (k + 1) (e .day) k (standing + 1))
+  unfolding ranTo isFlagged
+  ran-standing s some none = stand-one es e b refl (λ h. rw (run-more, ← h, s, b .flag, ne-eqb standing 0 some)) s none
 
-pub plain-start : (run : Run) → run .newest ≡ run .count - 1 → plainTo run (run .count) (run .day) ≡ run
-unfolding plainTo
-plain-start run h =
-    let same : run .standing + (run .count - run .count) ≡ run .standing = omega arith in
-    rw (same, ← h)
+  pub ran-withdrawn : isWithdrawn e ≡ true → OneOn l es (ranTo from k day newest standing) e (ranTo from (k + 1) day newest standing)
+  unfolding ranTo
+  ran-withdrawn w = withdraw-one es e b refl (λ h. rw (run-more, ← h, withdrawn-unstanding e w)) w
 
-pub plain-one : {l : Limits} {e : Entry} (from : Run) (k day : ℕ) → from .count ≤ k → from .marks ≡ 0 → Plain l day e → OneOn l (plainTo from k day) e (plainTo from (k + 1) (e .day))
-unfolding plainTo isFlagged liveMarks nearMarks
-plain-one {l} {e} from k day h none p =
-    let s = p .stands in
-    let before = plainTo from k day in
-    let after = plainTo from (k + 1) (e .day) in
-    let more : (es : List Entry) → before ≡ runOf es → after ≡ runOf (e ∷ es) =
-    λ es is.
-    (let stand : from .standing + (k + 1 - from .count) ≡ from .standing + (k - from .count) + 1 = omega arith in
-    let newest : k + 1 - 1 ≡ k = omega arith in
-    let live : liveMarks (e .day) (from .latest) 0 ≡ 0 = none-either (ltb (e .day) (from .latest)) in
-    let near : nearMarks (e .day) (from .latest) 0 ≡ 0 = none-either (ltb (from .latest) (e .day)) in
-    let same : from .doubts + 0 ≡ from .doubts = omega arith in
-    rw (run-more, ← is, s, stands-unwithdrawn e s, p .body .flag, none, live, near, no-mark (e .value), same, stand, newest))
-    in
-    stand-one before e after (p .body) refl more s
+pub ran-start : (from : Run) → ranTo from (from .count) (from .day) (from .newest) (from .standing) ≡ from
+unfolding ranTo
+ran-start from = refl
+
+-- ---- entries that all stand
+pub all-standing : (es : List Entry) → length (standing es) ≡ length es → (withdrawn es ≡ []) × (newestAt es ≡ length es - 1)
+unfolding those newestAt
+all-standing [] h = (refl, refl)
+all-standing (e ∷ es) h = cases (all-standing es) (isStanding e) refl where
+  cases : (length (standing es) ≡ length es → (withdrawn es ≡ []) × (newestAt es ≡ length es - 1)) → (b : Bool) → isStanding e ≡ b → (withdrawn (e ∷ es) ≡ []) × (newestAt (e ∷ es) ≡ suc (length es) - 1)
+  cases rest true s =
+      let less : length (standing es) ≡ length es = omega (arith, rw s at h) in
+      let last : suc (length es) - 1 ≡ length es = omega arith in
+      rw (s, stands-unwithdrawn e s, last) (rest less .0, refl)
+  cases rest false s = absurd (omega (arith, rw s at h, those-at-most isStanding es))
+
+pub all-run : (from : Run) (es : List Entry) → from ≡ runOf es → from .standing ≡ from .count → (withdrawn es ≡ []) × (from .newest ≡ from .count - 1)
+unfolding runOf
+all-run from es is all =
+    let same : length (standing es) ≡ length es = rw is at all in
+    let stand = all-standing es same in
+    (stand .0, rw is (stand .1))
+
+pub plain-start : (from : Run) → from .standing ≡ from .count → from .newest ≡ from .count - 1 → ranTo from (from .count) (from .day) (from .count - 1) (from .count) ≡ from
+unfolding ranTo
+plain-start from all newest = rw (← newest, ← all)
+
+pub none-withdrawn : (day value : ℕ) (es : List Entry) → withdrawn es ≡ [] → any (hasRead day value) (withdrawn es) ≡ false
+unfolding any
+none-withdrawn day value es none = rw none
+
+pub withdrawn-still : (k : ℕ) (a : List ℕ) {e : Entry} → e ≡ entryAt a (entryStart k) → isWithdrawn e ≡ false → withdrawn (entriesTo (k + 1) a) ≡ withdrawn (entriesTo k a)
+withdrawn-still k a read stays = those-more k a isWithdrawn read (sym stays)

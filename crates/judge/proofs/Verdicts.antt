@@ -14,11 +14,12 @@ use Rattle.register.specs.declared.head.Head.{Head}
 use Rattle.register.specs.Head.{headOf, mostEntries, bodyOf}
 use Rattle.judge.specs.declared.area.Judged.{Judged}
 use Rattle.judge.specs.declared.area.Judged.the-variants as judge
+use Rattle.judge.specs.declared.area.Judgement.{Judgement}
 use Rattle.judge.specs.declared.area.Summary.{Summary}
 use Rattle.judge.specs.declared.pass.Pass.{Pass}
 use Rattle.journal.specs.Journal.{Journal, entriesTo, countFrom, entryCount, journalOf, standing, withdrawn}
-use Rattle.journal.specs.Sound.{isHead, areApart, areSound, isSound}
-use Rattle.judge.specs.Inner.Judged.{summaryOf, judged, judgedBody, Judges, Counted}
+use Rattle.journal.specs.Sound.{any, hasRead, isHead, areApart, areSound, isSound}
+use Rattle.judge.specs.Inner.Judged.{summaryOf, judged, judgedBody, amongIn, Judges, Answers, Counted}
 use Rattle.judge.specs.Inner.Pass.{IsPassed}
 use Rattle.journal.proofs.Bools.{both}
 use Rattle.journal.proofs.Entries.{length-entries, count-from-most}
@@ -34,6 +35,24 @@ sound-case false z s t h = no h (λ e. cc)
 sound-case true true s t h = no h (λ e. cc)
 sound-case true false true t h = (refl, refl, cc)
 sound-case true false false t h = no h (λ e. cc)
+
+-- ---- the answer with it
+module _ {found : Judged} {body : List ℕ} {day value : ℕ} {r : Judgement} where
+  pub damaged-answers : r ≡ record { found = judge.Damaged; withdrawn = false } → found ≡ judge.Damaged → Answers found body day value r
+  unfolding amongIn
+  damaged-answers e is = record { found-is = rw (e, is); withdrawn-is = rw (e, is) }
+
+  pub zero-answers : r ≡ record { found = judge.Zero; withdrawn = false } → found ≡ judge.Zero → Answers found body day value r
+  unfolding amongIn
+  zero-answers e is = record { found-is = rw (e, is); withdrawn-is = rw (e, is) }
+
+  pub sound-answers : {t : Summary} (head : Head) (k : ℕ) → r .found ≡ judge.Sound t → t ≡ summaryOf (record { head = head; entries = entriesTo k body }) → found ≡ judge.Sound (summaryOf (record { head = head; entries = entriesTo k body })) → r .withdrawn ≡ any (hasRead day value) (withdrawn (entriesTo k body)) → Answers found body day value r
+  unfolding amongIn summaryOf
+  sound-answers head k e sums is among =
+      record {
+        found-is = e ∙ ap judge.Sound sums ∙ sym is;
+        withdrawn-is = among ∙ sym (rw (is, length-entries k body));
+      }
 
 -- what is judged sound is counted
 pub judged-counted : (a : List ℕ) {t : Summary} → Judges a (judge.Sound t) → Counted a t
@@ -64,6 +83,11 @@ module _ (a : List ℕ) (t : Summary) (sound : isSound a ≡ true) (summary : t 
       ap (λ (h : Head). areSound h (entriesTo (t .entries) (bodyOf a))) head-is
       ∙ ap (λ (j : Journal). areSound (headOf a) (j .entries)) (sym journal-is)
       ∙ whole
+
+-- the answer about a read is the journal's
+pub withdrawn-counted : (a : List ℕ) {t : Summary} {day value : ℕ} {r : Judgement} → Counted a t → Answers (judged a) (bodyOf a) day value r → r .found ≡ judge.Sound t → r .withdrawn ≡ any (hasRead day value) (withdrawn (journalOf a .entries))
+unfolding amongIn
+withdrawn-counted a {t} is answers e = answers .withdrawn-is ∙ rw (sym (answers .found-is) ∙ e, journal-is a t (is .sound) (is .summary))
 
 -- ---- a body by the pass over it
 module _ {head : Head} {body : List ℕ} (p : Pass) (is : IsPassed head body p) where

@@ -1,6 +1,6 @@
 -- What only proofs and inner contracts need: how the loops over a body go about it, and what is counted of a sound journal.
 pub mod Marks
-pub mod Past
+pub mod Index
 pub mod Run
 pub mod Plain
 pub mod Pass

@@ -8,10 +8,10 @@ ghost use Rattle.terms.specs.Entry.{slotAt};
 ghost use Rattle.register.specs.Area.{areaBytes, allZero};
 ghost use Rattle.register.specs.declared.head.Head.{Head};
 ghost use Rattle.register.specs.Entries.{entryStart};
-ghost use Rattle.register.specs.Head.{headOf, mostEntries};
+ghost use Rattle.register.specs.Head.{headOf, mostEntries, bodyOf};
 ghost use Rattle.journal.specs.Journal.{entriesTo, standing};
 ghost use Rattle.journal.specs.Sound.{isHead};
-ghost use Rattle.judge.specs.Inner.Judged.{valueOf, summaryOf, judged, judgedBody, Judges};
+ghost use Rattle.judge.specs.Inner.Judged.{valueOf, summaryOf, judged, judgedBody, Judges, Answers};
 ghost use Rattle.judge.specs.Inner.Run.{runOf};
 ghost use Rattle.judge.specs.Inner.Pass.{IsPass};
 use crate::apart::is_apart;
@@ -47,10 +47,6 @@ pub struct Summary {
     // The value and the day of the last standing read, and 0 where none stands.
     pub last: u32,
     pub day: u16,
-    // The latest day of a withdrawn read, and 0 where there is none.
-    pub latest: u16,
-    // A bit for each value of a withdrawn read that a later standing one may have.
-    pub marks: u64,
     // What the dials hold, 10^n, which is looked up once.
     pub limit: u32,
     pub entries: u8,
@@ -62,6 +58,12 @@ pub enum Judged {
     Zero,
     Damaged,
     Sound(Summary),
+}
+
+pub struct Judgement {
+    pub found: Judged,
+    // The read that was asked for is withdrawn. It is not where there is no sound journal.
+    pub withdrawn: bool,
 }
 
 // The value of the last standing read.
@@ -100,13 +102,11 @@ fn summary_of(body: &[u8], head: Head, limit: u32, pass: Pass) -> Summary
             kept,
             standing: run.standing,
             flagged: run.flagged,
-            first: pass.first,
+            first: run.first,
             newest: run.newest,
         },
         last,
         day: run.day,
-        latest: run.latest,
-        marks: run.marks,
         limit,
         entries: run.count,
         ended: pass.ended,
@@ -120,52 +120,67 @@ fn is_head(area: &[u8], head: Head) -> bool
     (area[0] == Kind::METER) & is_plate(head)
 }
 
+// What was found, where it is no sound journal.
+fn no_journal(found: Judged) -> Judgement
+    ensures { λ r. ⌜ r ≡ record { found = found; withdrawn = false } ⌝ }
+{
+    Judgement {
+        found,
+        withdrawn: false,
+    }
+}
+
 // The entries that follow a head.
-fn judge_body(body: &[u8], head: Head) -> Judged
+fn judge_body(body: &[u8], head: Head, day: u16, value: u32) -> Judgement
     requires { ⌜ entryStart (mostEntries head) ≤ length (now body) ⌝ }
-    ensures { λ r. ⌜ r ≡ judgedBody head (now (body .entry)) ⌝ }
+    ensures { λ r. ⌜ Answers (judgedBody head (now (body .entry))) (now (body .entry)) day value r ⌝ }
 {
     let limits = limits_of(head);
-    let pass = pass_over(body, head, limits);
+    let passed = pass_over(body, head, limits, day, value);
+    let pass = passed.pass;
     if !pass.ordered {
-        return Judged::Damaged;
+        return no_journal(Judged::Damaged);
+    }
+    if !is_apart(body, head, pass) {
+        return no_journal(Judged::Damaged);
     }
     let run = pass.run;
-    if !is_apart(body, head, run) {
-        return Judged::Damaged;
-    }
     if !is_zero_from(body, Layout::ENTRY_BYTES * (run.count as usize)) {
-        return Judged::Damaged;
+        return no_journal(Judged::Damaged);
     }
-    Judged::Sound(summary_of(body, head, limits.limit, pass))
+    let summary = summary_of(body, head, limits.limit, pass);
+    Judgement {
+        found: Judged::Sound(summary),
+        withdrawn: passed.withdrawn,
+    }
 }
 
 // An area of 512 bytes that are not all zero.
-fn judge_journal(area: &[u8]) -> Judged
+fn judge_journal(area: &[u8], day: u16, value: u32) -> Judgement
     requires { ⌜ (length (now area) ≡ areaBytes) × (allZero (now area) ≡ false) ⌝ }
-    ensures { λ r. ⌜ r ≡ judged (now (area .entry)) ⌝ }
+    ensures { λ r. ⌜ Answers (judged (now (area .entry))) (bodyOf (now (area .entry))) day value r ⌝ }
 {
     let head = head_at(area);
     if !is_head(area, head) {
-        return Judged::Damaged;
+        return no_journal(Judged::Damaged);
     }
     let start = head_bytes(head);
-    judge_body(&area[start..], head)
+    judge_body(&area[start..], head, day, value)
 }
 
-// All zero, damaged, or sound with what is counted: for any bytes whatever. An area whose first byte is not zero need not be looked through
-// for zeros.
-pub fn judge_area(area: &[u8]) -> Judged
-    ensures { λ r. ⌜ Judges (now (area .entry)) r ⌝ }
+// All zero, damaged, or sound with what is counted, for any bytes whatever; and whether the read of a day and a value that is asked for is
+// among the withdrawn ones. An area whose first byte is not zero need not be looked through for zeros.
+pub fn judge_area(area: &[u8], day: u16, value: u32) -> Judgement
+    ensures { λ r. ⌜ Judges (now (area .entry)) (r .found) × Answers (judged (now (area .entry))) (bodyOf (now (area .entry))) day value r ⌝ }
 {
     if area.len() != Layout::AREA_BYTES {
-        return Judged::Damaged;
+        return no_journal(Judged::Damaged);
     }
     if area[0] != 0 {
-        return judge_journal(area);
+        return judge_journal(area, day, value);
     }
     if is_zero_from(area, 0) {
-        return Judged::Zero;
+        return no_journal(Judged::Zero);
     }
-    Judged::Damaged
+    no_journal(Judged::Damaged)
 }

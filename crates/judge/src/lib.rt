@@ -2,9 +2,9 @@
 mod apart;
 pub mod area;
 mod halving;
+mod index;
 pub mod limits;
 pub mod marks;
 pub mod pass;
-mod past;
 mod read;
 pub mod run;

@@ -1,17 +1,23 @@
 // The pass that judges the entries of a body. Runs of plain ones are taken in loops of their own, which carry less.
 ghost use mathlib.Core.Path.{_≡_};
-ghost use mathlib.Core.Bool.{true, false, cond};
+ghost use mathlib.Core.Bool.{true, _&&_};
 ghost use mathlib.Core.List.{List, [], _∷_};
-ghost use Prim.Native.Nat.{_≤_, _<_};
+ghost use Prim.Native.Nat.{_+_, _-_, _≤_, _<_};
 ghost use lib.ListN.{length};
 ghost use Rattle.arithmetic.specs.Powers.{tenTo};
 ghost use Rattle.terms.specs.declared.entry.Entry.{Entry};
 ghost use Rattle.register.specs.declared.head.Head.{Head};
-ghost use Rattle.register.specs.Entries.{entryStart};
-ghost use Rattle.journal.specs.Journal.{entriesTo};
+ghost use Rattle.register.specs.Entries.{entryStart, entryAt};
+ghost use Rattle.journal.specs.Journal.{entriesTo, countFrom};
+ghost use Rattle.judge.specs.Inner.Index.{crowded, buckets, Indexed};
 ghost use Rattle.judge.specs.Inner.Run.{runOf};
 ghost use Rattle.judge.specs.Inner.Plain.{IsLimits};
-ghost use Rattle.judge.specs.Inner.Pass.{passOf, First, Starts, PassesTo, IsPassed};
+ghost use Rattle.judge.specs.Inner.Pass.{passOf, First, IsClear, Starts, PassesTo, GoesOn, IsPassed, HasPassed};
+use crate::index::Index;
+use crate::index::bucket_of;
+use crate::index::has_withdrawn;
+use crate::index::is_clear;
+use crate::index::put;
 use crate::limits::Limits;
 use crate::read::entry_at;
 use crate::run::Run;
@@ -23,66 +29,59 @@ use crate::run::start_run;
 use journal::order::is_final;
 use journal::order::is_held;
 use journal::order::is_standing;
+use journal::order::is_withdrawn;
 use journal::order::may_follow;
+use register::area::Layout;
 use register::head::Head;
 use terms::entry::Entry;
 use terms::letter::is_opening;
 
 pub struct Pass {
     pub run: Run,
-    // The value of the first standing read.
-    pub first: u32,
     // In order: sound but for what compares standing and withdrawn reads.
     pub ordered: bool,
-    // A read stands.
-    pub stands: bool,
     // The newest entry is held.
     pub held: bool,
     // An F stands.
     pub ended: bool,
+    // No standing read has both the day and the value of a withdrawn one, for sure.
+    pub apart: bool,
+}
+
+pub struct Passed {
+    pub pass: Pass,
+    // The read that was asked for is withdrawn.
+    pub withdrawn: bool,
 }
 
 fn start_pass() -> Pass
-    ensures { λ r. ⌜ (r .run ≡ runOf []) × ((head : Head) → r ≡ passOf head []) ⌝ }
+    ensures { λ r. ⌜ (r .run ≡ runOf []) × ((head : Head) → r ≡ passOf head (r .apart) []) ⌝ }
 {
     let run = start_run();
     Pass {
         run,
-        first: 0,
         ordered: true,
-        stands: false,
         held: false,
         ended: false,
+        apart: true,
     }
 }
 
-// The value of the first standing read, with one entry more.
-fn first_with(first: u32, opens: bool, e: Entry) -> u32
-    ensures { λ r. ⌜ r ≡ cond opens (e .value) first ⌝ }
-{
-    if opens {
-        return e.value;
-    }
-    first
-}
-
-// One entry more, and whether it may follow.
-fn pass_with(pass: Pass, limit: u32, e: Entry) -> Pass
-    requires { ⌜ (pass .run .count < 255) × (pass .run .standing ≤ pass .run .count) × (pass .run .flagged ≤ pass .run .standing) × (pass .run .doubts ≤ pass .run .count) ⌝ }
-    ensures { λ r. ⌜ ((head : Head) (es : List Entry) → limit ≡ tenTo (head .dials) → pass ≡ passOf head es → r ≡ passOf head (e ∷ es)) ⌝ }
+// One entry more: whether it may follow, and whether it is clear of those before it.
+fn pass_with(pass: Pass, limit: u32, clear: bool, e: Entry) -> Pass
+    requires { ⌜ (pass .run .count < 255) × (pass .run .standing ≤ pass .run .count) × (pass .run .flagged ≤ pass .run .standing) ⌝ }
+    ensures { λ r. ⌜ (r .apart ≡ pass .apart && clear) × ((es : List Entry) → pass .run ≡ runOf es → r .run ≡ runOf (e ∷ es)) × ((head : Head) (es : List Entry) → limit ≡ tenTo (head .dials) → pass ≡ passOf head (pass .apart) es → r ≡ passOf head (r .apart) (e ∷ es)) ⌝ }
 {
     let run = pass.run;
-    let follows = may_follow(limit, e, pass.stands, run.day, pass.held, pass.ended);
+    let follows = may_follow(limit, e, run.standing != 0, run.day, pass.held, pass.ended);
     let stands = is_standing(e);
-    let first = first_with(pass.first, stands & !pass.stands, e);
     let counted = count(run, e);
     Pass {
         run: counted,
-        first,
         ordered: follows & pass.ordered,
-        stands: stands | pass.stands,
         held: is_held(e),
         ended: (stands & is_final(e)) | pass.ended,
+        apart: pass.apart & clear,
     }
 }
 
@@ -125,54 +124,159 @@ fn open_over(body: &[u8], limits: Limits) -> Pass
     let run = plain_over(body, limits, opened);
     Pass {
         run,
-        first: e.value,
         ordered: true,
-        stands: true,
         held: false,
         ended: false,
+        apart: true,
     }
 }
 
 // Past the plain entries that follow, where a read stands and none is held.
-fn pass_plain(body: &[u8], limits: Limits, pass: Pass) -> Pass
+fn pass_plain(body: &[u8], limits: Limits, index: &mut [u8; Index::BUCKETS], pass: Pass) -> Pass
     requires { ⌜ (entryStart (limits .most) ≤ length (now body)) × (pass .run .count ≤ limits .most) × (pass .run ≡ runOf (entriesTo (pass .run .count) (now body))) ⌝ }
-    ensures { λ r. ⌜ PassesTo (now (body .entry)) limits pass r ⌝ }
+    requires { ⌜ Indexed (now body) (pass .run .count) (now index) ⌝ }
+    ensures { λ r. ⌜ PassesTo (now (body .entry)) limits pass r × Indexed (now (body .entry)) (r .run .count) (now (index .exit)) ⌝ }
 {
-    if pass.held | !pass.stands {
+    let from = pass.run;
+    if pass.held | (from.standing == 0) {
         return pass;
     }
-    let plain = plain_over(body, limits, pass.run);
-    let run = run_over(body, limits, plain);
+    let plain = plain_over(body, limits, from);
+    let run = run_over(body, limits, index, plain);
     Pass {
         run,
-        first: pass.first,
         ordered: true,
-        stands: true,
         held: false,
         ended: pass.ended,
+        apart: pass.apart,
     }
 }
 
-// Whether the entries of a body are in order, to the first zero kind byte. It ends at the first that is not.
-pub(crate) fn pass_over(body: &[u8], head: Head, limits: Limits) -> Pass
-    requires { ⌜ (entryStart (limits .most) ≤ length (now body)) × IsLimits head limits ⌝ }
-    ensures { λ r. ⌜ IsPassed head (now (body .entry)) r ⌝ }
+// Whether one entry more is clear of those before it: a standing one by the index, and a withdrawn one, which is put into it, if it is later
+// than every standing one.
+fn compare(body: &[u8], index: &mut [u8; Index::BUCKETS], run: Run, e: Entry) -> bool
+    requires { ⌜ (entryStart (run .count) ≤ length (now body)) × (run .count < crowded) × (e ≡ entryAt (now body) (entryStart (run .count))) ⌝ }
+    requires { ⌜ Indexed (now body) (run .count) (now index) ⌝ }
+    ensures { λ r. ⌜ IsClear (now (body .entry)) run e r × Indexed (now (body .entry)) (run .count + 1) (now (index .exit)) ⌝ }
 {
-    let mut pass = open_over(body, limits);
-    let opened = pass.run;
-    let mut at = opened.count;
+    if is_withdrawn(e) {
+        put(index, run.count, e);
+        return run.day < e.day;
+    }
+    if !is_standing(e) {
+        return true;
+    }
+    let at = bucket_of(e.day, e.value) as usize;
+    let there = index[at];
+    is_clear(body, run.count, there, e)
+}
+
+// One entry more, by all the rules.
+fn pass_entry(body: &[u8], limits: Limits, index: &mut [u8; Index::BUCKETS], pass: Pass) -> Pass
+    requires { ⌜ (entryStart (limits .most) ≤ length (now body)) × (pass .run .count < limits .most) × (pass .run ≡ runOf (entriesTo (pass .run .count) (now body))) ⌝ }
+    requires { ⌜ Indexed (now body) (pass .run .count) (now index) ⌝ }
+    ensures { λ r. ⌜ GoesOn (now (body .entry)) limits pass r × Indexed (now (body .entry)) (r .run .count) (now (index .exit)) ⌝ }
+{
+    let run = pass.run;
+    let e = entry_at(body, run.count);
+    let clear = compare(body, index, run, e);
+    pass_with(pass, limits.limit, clear, e)
+}
+
+// Past the plain entries that follow, or past one entry by all the rules.
+fn pass_next(body: &[u8], limits: Limits, index: &mut [u8; Index::BUCKETS], pass: Pass) -> Pass
+    requires { ⌜ (entryStart (limits .most) ≤ length (now body)) × (pass .run .count < limits .most) × (pass .run ≡ runOf (entriesTo (pass .run .count) (now body))) ⌝ }
+    requires { ⌜ Indexed (now body) (pass .run .count) (now index) ⌝ }
+    ensures { λ r. ⌜ GoesOn (now (body .entry)) limits pass r × Indexed (now (body .entry)) (r .run .count) (now (index .exit)) ⌝ }
+{
+    let from = pass.run;
+    let ran = pass_plain(body, limits, index, pass);
+    let run = ran.run;
+    if run.count != from.count {
+        return ran;
+    }
+    pass_entry(body, limits, index, ran)
+}
+
+// Past all entries that follow, to the first zero kind byte. It ends at the first that is not in order.
+fn pass_rest(
+    body: &[u8],
+    head: Head,
+    limits: Limits,
+    index: &mut [u8; Index::BUCKETS],
+    opened: Pass,
+) -> Pass
+    requires { ⌜ (entryStart (limits .most) ≤ length (now body)) × IsLimits head limits × Starts (now body) limits opened ⌝ }
+    requires { ⌜ length (now index) ≡ buckets ⌝ }
+    ensures { λ r. ⌜ IsPassed head (now (body .entry)) r × (r .ordered ≡ true → Indexed (now (body .entry)) (r .run .count) (now (index .exit))) ⌝ }
+{
+    let mut pass = opened;
+    let first = opened.run;
+    let mut at = first.count;
     while at < limits.most {
-        let e = entry_at(body, at);
-        if e.kind == 0 {
+        if body[Layout::ENTRY_BYTES * (at as usize)] == 0 {
             return pass;
         }
-        let next = pass_with(pass, limits.limit, e);
+        let next = pass_next(body, limits, index, pass);
         if !next.ordered {
             return next;
         }
-        pass = pass_plain(body, limits, next);
+        pass = next;
         let run = pass.run;
         at = run.count;
     }
     pass
+}
+
+// The same with an index of its own, in which the read that is asked for is looked up.
+fn pass_indexed(
+    body: &[u8],
+    head: Head,
+    limits: Limits,
+    opened: Pass,
+    day: u16,
+    value: u32,
+) -> Passed
+    requires { ⌜ (entryStart (limits .most) ≤ length (now body)) × IsLimits head limits × Starts (now body) limits opened ⌝ }
+    ensures { λ r. ⌜ HasPassed head (now (body .entry)) day value r ⌝ }
+{
+    let mut index = [0; Index::BUCKETS];
+    let pass = pass_rest(body, head, limits, &mut index, opened);
+    if !pass.ordered {
+        return Passed {
+            pass,
+            withdrawn: false,
+        };
+    }
+    let run = pass.run;
+    let withdrawn = has_withdrawn(body, run.count, &index, day, value);
+    Passed { pass, withdrawn }
+}
+
+// No entry follows the first `at`.
+fn is_end(body: &[u8], most: u8, at: u8) -> bool
+    requires { ⌜ (entryStart most ≤ length (now body)) × (at ≤ most) ⌝ }
+    ensures { λ r. ⌜ (r ≡ true → countFrom (most - at) at (now (body .entry)) ≡ at) ⌝ }
+{
+    if at == most {
+        return true;
+    }
+    body[Layout::ENTRY_BYTES * (at as usize)] == 0
+}
+
+// Whether the entries of a body are in order, to the first zero kind byte, and whether a read is among the withdrawn ones. An index is made
+// only where there is more than the reads that a journal opens with.
+pub(crate) fn pass_over(body: &[u8], head: Head, limits: Limits, day: u16, value: u32) -> Passed
+    requires { ⌜ (entryStart (limits .most) ≤ length (now body)) × IsLimits head limits ⌝ }
+    ensures { λ r. ⌜ HasPassed head (now (body .entry)) day value r ⌝ }
+{
+    let opened = open_over(body, limits);
+    let run = opened.run;
+    if is_end(body, limits.most, run.count) {
+        return Passed {
+            pass: opened,
+            withdrawn: false,
+        };
+    }
+    pass_indexed(body, head, limits, opened, day, value)
 }

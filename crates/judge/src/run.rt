@@ -4,21 +4,20 @@ ghost use mathlib.Core.Path.{_≡_};
 ghost use mathlib.Core.Bool.{true, cond};
 ghost use mathlib.Core.List.{List, [], _∷_};
 ghost use Prim.Native.Nat.{_+_, _-_, _≤_, _<_};
+ghost use lib.Dec.{eqb};
 ghost use lib.ListN.{length};
 ghost use Rattle.terms.specs.declared.entry.Entry.{Entry};
-ghost use Rattle.terms.specs.Entry.{isStanding, isWithdrawn};
+ghost use Rattle.terms.specs.Entry.{isStanding};
 ghost use Rattle.register.specs.Entries.{entryStart};
 ghost use Rattle.journal.specs.Journal.{entriesTo, isFlagged};
-ghost use Rattle.judge.specs.Inner.Run.{runOf, plainTo};
-ghost use Rattle.judge.specs.Inner.Plain.{PlainBody, Plain, OneOn, RunsTo};
+ghost use Rattle.judge.specs.Inner.Index.{Indexed};
+ghost use Rattle.judge.specs.Inner.Run.{runOf, ranTo};
+ghost use Rattle.judge.specs.Inner.Plain.{PlainBody, Plain, RunsTo, StandsTo};
+use crate::index::Index;
+use crate::index::bucket_of;
+use crate::index::is_clear;
 use crate::limits::Limits;
 use crate::limits::has_letter;
-use crate::marks::mark;
-use crate::marks::mark_of;
-use crate::past::doubt_of;
-use crate::past::later;
-use crate::past::live_marks;
-use crate::past::near_marks;
 use crate::read::entry_at;
 use journal::order::is_standing;
 use journal::order::is_withdrawn;
@@ -27,10 +26,8 @@ use terms::submission::Indicator;
 
 // What is kept of some of the entries.
 pub struct Run {
-    // A bit for each value of a withdrawn read that a later standing one may have.
-    pub marks: u64,
-    // The latest day of a withdrawn read, and 0 where there is none.
-    pub latest: u16,
+    // The value of the first standing read.
+    pub first: u32,
     // The day of the last standing read.
     pub day: u16,
     // How many entries were passed, how many of them stand, and how many of these are flagged.
@@ -39,22 +36,18 @@ pub struct Run {
     pub flagged: u8,
     // How many entries come before the last standing one.
     pub newest: u8,
-    // How many entries may have the day and the value of one before them, where one of the two stands and the other is withdrawn.
-    pub doubts: u8,
 }
 
 pub(crate) fn start_run() -> Run
     ensures { λ r. ⌜ r ≡ runOf [] ⌝ }
 {
     Run {
-        marks: 0,
-        latest: 0,
+        first: 0,
         day: 0,
         count: 0,
         standing: 0,
         flagged: 0,
         newest: 0,
-        doubts: 0,
     }
 }
 
@@ -69,73 +62,51 @@ fn flagged_with(flagged: u8, e: Entry) -> u8
     flagged
 }
 
+// The value of the first standing read, with one standing read more.
+fn first_with(run: Run, e: Entry) -> u32
+    ensures { λ r. ⌜ r ≡ cond (eqb (run .standing) 0) (e .value) (run .first) ⌝ }
+{
+    if run.standing == 0 {
+        return e.value;
+    }
+    run.first
+}
+
 // One standing read more.
 pub(crate) fn stand(run: Run, flagged: u8, e: Entry) -> Run
-    requires { ⌜ (run .count < 255) × (run .standing ≤ run .count) × (run .doubts ≤ run .count) ⌝ }
+    requires { ⌜ (run .count < 255) × (run .standing ≤ run .count) ⌝ }
     ensures { λ r. ⌜ (r .count ≡ run .count + 1) × ((es : List Entry) → isStanding e ≡ true → flagged ≡ cond (isFlagged e) (run .flagged + 1) (run .flagged) → run ≡ runOf es → r ≡ runOf (e ∷ es)) ⌝ }
 {
-    let marks = live_marks(e.day, run.latest, run.marks);
+    let first = first_with(run, e);
     let count = run.count + 1;
     let standing = run.standing + 1;
-    let near = near_marks(e.day, run.latest, run.marks);
-    let doubt = mark_of(near, e.value);
-    let doubts = run.doubts + doubt;
     Run {
-        marks,
-        latest: run.latest,
+        first,
         day: e.day,
         count,
         standing,
         flagged,
         newest: run.count,
-        doubts,
-    }
-}
-
-// One withdrawn read more.
-fn withdraw(run: Run, e: Entry) -> Run
-    requires { ⌜ (run .count < 255) × (run .doubts ≤ run .count) ⌝ }
-    ensures { λ r. ⌜ (r .count ≡ run .count + 1) × ((es : List Entry) → isWithdrawn e ≡ true → run ≡ runOf es → r ≡ runOf (e ∷ es)) ⌝ }
-{
-    let marks = mark(run.marks, e.value);
-    let latest = later(run.latest, e.day);
-    let count = run.count + 1;
-    let doubt = doubt_of(e.day, run.day);
-    let doubts = run.doubts + doubt;
-    Run {
-        marks,
-        latest,
-        day: run.day,
-        count,
-        standing: run.standing,
-        flagged: run.flagged,
-        newest: run.newest,
-        doubts,
     }
 }
 
 // One entry more, of any kind.
 pub(crate) fn count(run: Run, e: Entry) -> Run
-    requires { ⌜ (run .count < 255) × (run .standing ≤ run .count) × (run .flagged ≤ run .standing) × (run .doubts ≤ run .count) ⌝ }
+    requires { ⌜ (run .count < 255) × (run .standing ≤ run .count) × (run .flagged ≤ run .standing) ⌝ }
     ensures { λ r. ⌜ ((es : List Entry) → run ≡ runOf es → r ≡ runOf (e ∷ es)) ⌝ }
 {
     if is_standing(e) {
         let flagged = flagged_with(run.flagged, e);
         return stand(run, flagged, e);
     }
-    if is_withdrawn(e) {
-        return withdraw(run, e);
-    }
     let count = run.count + 1;
     Run {
-        marks: run.marks,
-        latest: run.latest,
+        first: run.first,
         day: run.day,
         count,
         standing: run.standing,
         flagged: run.flagged,
         newest: run.newest,
-        doubts: run.doubts,
     }
 }
 
@@ -166,41 +137,18 @@ fn is_plain(limits: Limits, last: u16, e: Entry) -> bool
     is_plain_body(limits, last, e)
 }
 
-// One entry more, if it is plain; else the run as it was.
-fn run_on(run: Run, limits: Limits, e: Entry) -> Run
-    requires { ⌜ (run .count < 255) × (run .standing ≤ run .count) × (run .doubts ≤ run .count) ⌝ }
-    ensures { λ r. ⌜ ((r .count ≡ run .count → ⊥) → OneOn limits run e r) ⌝ }
+// The run after plain entries alone, to a count.
+fn run_to(from: Run, count: u8, day: u16, newest: u8, standing: u8) -> Run
+    ensures { λ r. ⌜ r ≡ ranTo from count day newest standing ⌝ }
 {
-    if is_standing(e) {
-        if !is_plain_body(limits, run.day, e) {
-            return run;
-        }
-        return stand(run, run.flagged, e);
+    Run {
+        first: from.first,
+        day,
+        count,
+        standing,
+        flagged: from.flagged,
+        newest,
     }
-    if !is_withdrawn(e) {
-        return run;
-    }
-    if !is_plain_body(limits, run.day, e) {
-        return run;
-    }
-    withdraw(run, e)
-}
-
-// Past the plain entries that follow.
-pub(crate) fn run_over(body: &[u8], limits: Limits, from: Run) -> Run
-    requires { ⌜ (entryStart (limits .most) ≤ length (now body)) × (from .count ≤ limits .most) × (from ≡ runOf (entriesTo (from .count) (now body))) ⌝ }
-    ensures { λ r. ⌜ RunsTo (now (body .entry)) limits from r ⌝ }
-{
-    let mut run = from;
-    while run.count < limits.most {
-        let e = entry_at(body, run.count);
-        let next = run_on(run, limits, e);
-        if next.count == run.count {
-            return run;
-        }
-        run = next;
-    }
-    run
 }
 
 // One less, and 0 of 0.
@@ -213,32 +161,12 @@ pub(crate) fn one_less(k: u8) -> u8
     k - 1
 }
 
-// The run after plain standing reads alone, to a count and a day.
-fn plain_to(from: Run, k: u8, day: u16) -> Run
-    requires { ⌜ (from .count ≤ k) × (from .standing ≤ from .count) ⌝ }
-    ensures { λ r. ⌜ r ≡ plainTo from k day ⌝ }
-{
-    Run {
-        marks: from.marks,
-        latest: from.latest,
-        day,
-        count: k,
-        standing: from.standing + (k - from.count),
-        flagged: from.flagged,
-        newest: one_less(k),
-        doubts: from.doubts,
-    }
-}
-
-// Past the plain standing reads that follow a standing one, where none may clash. It carries only a count and a day.
+// Past the plain standing reads that follow where all others stand, so that none may clash. It carries only a count and a day.
 pub(crate) fn plain_over(body: &[u8], limits: Limits, from: Run) -> Run
-    requires { ⌜ (entryStart (limits .most) ≤ length (now body)) × (from .count ≤ limits .most) × (from ≡ runOf (entriesTo (from .count) (now body))) ⌝ }
-    ensures { λ r. ⌜ RunsTo (now (body .entry)) limits from r ⌝ }
+    requires { ⌜ (entryStart (limits .most) ≤ length (now body)) × (from .count ≤ limits .most) × (from ≡ runOf (entriesTo (from .count) (now body))) × (from .standing ≡ 0 → ⊥) ⌝ }
+    ensures { λ r. ⌜ StandsTo (now (body .entry)) limits from r ⌝ }
 {
-    if from.marks != 0 {
-        return from;
-    }
-    if from.newest != one_less(from.count) {
+    if from.standing != from.count {
         return from;
     }
     let mut day = from.day;
@@ -246,10 +174,51 @@ pub(crate) fn plain_over(body: &[u8], limits: Limits, from: Run) -> Run
     while k < limits.most {
         let e = entry_at(body, k);
         if !is_plain(limits, day, e) {
-            return plain_to(from, k, day);
+            break;
         }
         day = e.day;
         k += 1;
     }
-    plain_to(from, k, day)
+    run_to(from, k, day, one_less(k), k)
+}
+
+// Past the plain entries that follow. A withdrawn one is put into the index; where its bucket is taken, or that of a standing one leaves it
+// in doubt, the run ends.
+pub(crate) fn run_over(
+    body: &[u8],
+    limits: Limits,
+    index: &mut [u8; Index::BUCKETS],
+    from: Run,
+) -> Run
+    requires { ⌜ (entryStart (limits .most) ≤ length (now body)) × (from .count ≤ limits .most) × (from ≡ runOf (entriesTo (from .count) (now body))) × (from .standing ≡ 0 → ⊥) ⌝ }
+    requires { ⌜ Indexed (now body) (from .count) (now index) ⌝ }
+    ensures { λ r. ⌜ RunsTo (now (body .entry)) limits from r × Indexed (now (body .entry)) (r .count) (now (index .exit)) ⌝ }
+{
+    let mut k = from.count;
+    let mut day = from.day;
+    let mut newest = from.newest;
+    let mut standing = from.standing;
+    while k < limits.most {
+        let e = entry_at(body, k);
+        if !is_plain_body(limits, day, e) {
+            break;
+        }
+        let at = bucket_of(e.day, e.value) as usize;
+        let there = index[at];
+        if is_standing(e) {
+            if !is_clear(body, k, there, e) {
+                break;
+            }
+            day = e.day;
+            newest = k;
+            standing += 1;
+        } else {
+            if !is_withdrawn(e) | (there != 0) {
+                break;
+            }
+            index[at] = k + 1;
+        }
+        k += 1;
+    }
+    run_to(from, k, day, newest, standing)
 }

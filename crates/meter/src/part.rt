@@ -16,7 +16,9 @@ fn length_in(area: &[u8]) -> usize
     requires { ⌜ length (now area) ≡ areaBytes ⌝ }
     ensures { λ r. ⌜ r ≡ lengthIn (now (area .entry)) ⌝ }
 {
-    match judge_area(area) {
+    let judgement = judge_area(area, 0, 0);
+    let found = judgement.found;
+    match found {
         Judged::Zero => 0,
         Judged::Damaged => 0,
         Judged::Sound(t) => {

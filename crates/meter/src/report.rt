@@ -34,7 +34,9 @@ fn report_area(area: &[u8]) -> Report
     requires { ⌜ length (now area) ≡ areaBytes ⌝ }
     ensures { λ r. ⌜ acted (Reply.Reported r) (now (area .entry)) ≡ reportIn (now (area .entry)) ⌝ }
 {
-    match judge_area(area) {
+    let judgement = judge_area(area, 0, 0);
+    let found = judgement.found;
+    match found {
         Judged::Zero => refuse_report(Number::NO_METER),
         Judged::Damaged => refuse_report(Number::DAMAGED),
         Judged::Sound(t) => {

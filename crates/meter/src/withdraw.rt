@@ -67,7 +67,9 @@ fn decide_withdrawal(area: &[u8], day: u16, value: u32) -> Decided
     requires { ⌜ length (now area) ≡ areaBytes ⌝ }
     ensures { λ r. ⌜ Decides day value (now (area .entry)) r ⌝ }
 {
-    match judge_area(area) {
+    let judgement = judge_area(area, 0, 0);
+    let found = judgement.found;
+    match found {
         Judged::Zero => Decided::Refused(Number::NO_METER),
         Judged::Damaged => Decided::Refused(Number::DAMAGED),
         Judged::Sound(t) => {

@@ -12,14 +12,11 @@ use Rattle.register.specs.declared.head.Head.{Head}
 use Rattle.register.specs.Entries.{entryStart, entryAt}
 use Rattle.register.specs.Head.{headOf, headBytes, mostEntries, bodyOf}
 use Rattle.judge.specs.declared.area.Summary.{Summary}
-use Rattle.journal.specs.Journal.{Journal, journalOf, entriesTo, standing, withdrawn, kept, heldOf, isThere, newestAt}
-use Rattle.journal.specs.Sound.{any, hasRead, areInOrder, areSound, daysRise}
+use Rattle.journal.specs.Journal.{Journal, journalOf, entriesTo, standing, kept, heldOf, isThere, newestAt}
+use Rattle.journal.specs.Sound.{areInOrder, areSound, daysRise}
 use Rattle.journal.specs.Inner.Loops.{dayOf}
-use Rattle.judge.specs.Inner.Marks.{isMarked}
-use Rattle.judge.specs.Inner.Past.{latestDay, marksOf}
 use Rattle.judge.specs.Inner.Judged.{countsOf, summaryOf, Counted}
 use Rattle.journal.proofs.Bools.{both}
-use Rattle.judge.proofs.Doubts.{none-marked}
 use Rattle.journal.proofs.Entries.{length-entries, count-at-most}
 use Rattle.journal.proofs.InOrder.{days-rise}
 use Rattle.judge.proofs.Newest.{none-there, newest-entry, kept-all}
@@ -79,25 +76,10 @@ module _ (a : List ℕ) (t : Summary) (is : Counted a t) where
   few : t .entries ≤ mostEntries (t .head)
   few = rw (head-of, entries-are a t (is .sound) (is .summary)) (count-at-most a)
 
-  pub all-room : hasRoom a (t .head) (t .entries) ≡ true
-  all-room = room-is a (t .head) (t .entries) (is .long) few
-
   -- what was counted
   pub day-is : t .day ≡ dayOf (slotAt (standing (journalOf a .entries)) 0)
   unfolding summaryOf
   day-is = ap (λ (u : Summary). u .day) (is .summary)
-
-  pub latest-is : t .latest ≡ latestDay (withdrawn (journalOf a .entries))
-  unfolding summaryOf
-  latest-is = ap (λ (u : Summary). u .latest) (is .summary)
-
-  marks-are : t .marks ≡ marksOf (journalOf a .entries)
-  unfolding summaryOf
-  marks-are = ap (λ (u : Summary). u .marks) (is .summary)
-
-  -- after the last standing read, what is kept of the withdrawn ones is right to say no
-  pub none-kept : (day value : ℕ) → t .day < day → isMarked (t .marks) value ≡ false → any (hasRead day value) (withdrawn (journalOf a .entries)) ≡ false
-  none-kept day value later unmarked = none-marked day value (journalOf a .entries) rises (rw day-is at later) (rw marks-are at unmarked)
 
   pub stands-is : t .counts .standing ≡ length (standing (journalOf a .entries))
   unfolding summaryOf countsOf
@@ -134,10 +116,6 @@ module _ (a : List ℕ) (t : Summary) (is : Counted a t) where
     pub newest-in : slotIn a (t .head) (t .counts .newest) ≡ slotAt (standing (journalOf a .entries)) 0
     unfolding slotIn slotAt
     newest-in = rw (newest-room, last-stands)
-
-  -- ---- all entries, of what is lent
-  pub lent-entries : {start : ℕ} → start ≡ headBytes (t .head) → journalOf a .entries ≡ entriesTo (t .entries) (take (length a - start) (drop start a))
-  lent-entries starts = rw (lent-is a (t .head) starts) in-body
 
   -- ---- the held read
   keeps : t .counts .kept ≡ cond (isThere (heldOf (entriesTo (t .entries) body))) (length (entriesTo (t .entries) body) - 1) (length (entriesTo (t .entries) body))

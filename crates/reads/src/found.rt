@@ -1,20 +1,17 @@
-// What stands or is withdrawn of a day and a value that a call names.
+// What stands of a day and a value that a call names.
 ghost use mathlib.Core.Path.{_≡_};
 ghost use mathlib.Core.List.{List, _∷_};
 ghost use Prim.Native.Nat.{_≤_};
 ghost use lib.ListN.{length};
 ghost use Rattle.terms.specs.declared.entry.Entry.{Entry};
 ghost use Rattle.register.specs.Entries.{entryStart};
-ghost use Rattle.journal.specs.Journal.{journalOf, entriesTo, standing, withdrawn, onDay};
+ghost use Rattle.journal.specs.Journal.{journalOf, entriesTo, standing, onDay};
 ghost use Rattle.journal.specs.Sound.{any, hasRead};
 ghost use Rattle.judge.specs.Inner.Judged.{Counted};
 use crate::read::entry_at;
 use crate::recent::last;
 use crate::room::has_entry;
-use crate::room::has_room;
-use journal::order::has_read;
 use judge::area::Summary;
-use judge::marks::is_marked;
 use register::head::head_bytes;
 use terms::entry::Entry;
 use terms::entry::Kind;
@@ -72,39 +69,4 @@ pub fn has_standing(area: &[u8], t: Summary, day: u16, value: u32) -> bool
         Slot::Read(e) => e.value == value,
         Slot::Empty => false,
     }
-}
-
-// One of the first m entries is withdrawn with this day and value.
-fn is_among(body: &[u8], m: u8, day: u16, value: u32) -> bool
-    requires { ⌜ entryStart m ≤ length (now body) ⌝ }
-    ensures { λ r. ⌜ r ≡ any (hasRead day value) (withdrawn (entriesTo m (now (body .entry)))) ⌝ }
-{
-    let mut found = false;
-    let mut k: u8 = 0;
-    while k < m {
-        let e = entry_at(body, k);
-        found = ((e.kind == Kind::WITHDRAWN) & has_read(day, value, e)) | found;
-        k += 1;
-    }
-    found
-}
-
-// A read with this day and value was withdrawn. No withdrawn read is of a day after the latest, and after the last standing read the marks
-// tell of most that none is it.
-pub fn has_withdrawn(area: &[u8], t: Summary, day: u16, value: u32) -> bool
-    ensures { λ r. ⌜ (Counted (now (area .entry)) t → r ≡ any (hasRead day value) (withdrawn (journalOf (now (area .entry)) .entries))) ⌝ }
-{
-    if t.latest < day {
-        return false;
-    }
-    if (t.day < day) & !is_marked(t.marks, value) {
-        return false;
-    }
-    let head = t.head;
-    let entries = t.entries;
-    if !has_room(area, head, entries) {
-        return false;
-    }
-    let start = head_bytes(head);
-    is_among(&area[start..], entries, day, value)
 }

@@ -9,14 +9,7 @@ use register::head::head_bytes;
 use register::head::most_entries;
 use terms::entry::Slot;
 
-// The first m entries after a head are within the area.
-pub(crate) fn has_room(area: &[u8], head: Head, m: u8) -> bool
-    ensures { λ r. ⌜ r ≡ hasRoom (now (area .entry)) head m ⌝ }
-{
-    (area.len() == Layout::AREA_BYTES) & (m <= most_entries(head))
-}
-
-// The entry after k others is within the area. It is no `has_room` of k + 1, which may not fit a byte.
+// The entry after k others is within the area.
 pub(crate) fn has_entry(area: &[u8], head: Head, k: u8) -> bool
     ensures { λ r. ⌜ r ≡ hasRoom (now (area .entry)) head (suc k) ⌝ }
 {

@@ -3,11 +3,8 @@ ghost use mathlib.Core.Path.{_≡_};
 ghost use Prim.Native.Nat.{ℕ};
 ghost use Rattle.arithmetic.specs.Powers.{tenTo};
 ghost use Rattle.terms.specs.Rule.{firstBroken};
-ghost use Rattle.journal.specs.Journal.{journalOf};
-ghost use Rattle.judge.specs.Inner.Judged.{Counted};
-ghost use Rattle.calls.specs.Checks.{isMissing, isBadContent, isBadDate, contentRules};
-use judge::area::Summary;
-use reads::found::has_withdrawn;
+ghost use Rattle.journal.specs.Journal.{Journal};
+ghost use Rattle.calls.specs.Checks.{isMissing, isBadContent, isBadDate, isWithdrawnRead, contentRules};
 use terms::letter::is_known;
 use terms::number::Number;
 use terms::submission::Indicator;
@@ -37,21 +34,20 @@ fn is_bad_date(s: Submission) -> bool
     (s.day == 0) | (s.submitted < s.day)
 }
 
-// The number of the first rule broken, or 0. Only 8 reads the entries.
-pub(crate) fn content_number(area: &[u8], s: Submission, t: Summary) -> u8
-    requires { ⌜ Counted (now area) t ⌝ }
-    ensures { λ r. ⌜ r ≡ firstBroken (contentRules s (journalOf (now (area .entry)))) ⌝ }
+// The number of the first rule broken, or 0. Whether the read is withdrawn, 8, was asked where the area was judged.
+pub(crate) fn content_number(s: Submission, limit: u32, withdrawn: bool) -> u8
+    ensures { λ r. ⌜ ((j : Journal) → limit ≡ tenTo (j .head .dials) → withdrawn ≡ isWithdrawnRead s (j .entries) → r ≡ firstBroken (contentRules s j)) ⌝ }
 {
     if is_missing(s) {
         return Number::MISSING;
     }
-    if is_bad_content(t.limit, s) {
+    if is_bad_content(limit, s) {
         return Number::CONTENT;
     }
     if is_bad_date(s) {
         return Number::DATE;
     }
-    if has_withdrawn(area, t, s.day, s.value) {
+    if withdrawn {
         return Number::WITHDRAWN;
     }
     Number::ACCEPTED

@@ -8,7 +8,7 @@ ghost use Rattle.register.specs.Area.{areaBytes};
 ghost use Rattle.register.specs.Head.{offsetAfter};
 ghost use Rattle.journal.specs.Journal.{Journal, journalOf, standing};
 ghost use Rattle.judge.specs.Inner.Judged.{summaryOf, Counted};
-ghost use Rattle.calls.specs.Checks.{submitRules};
+ghost use Rattle.calls.specs.Checks.{isWithdrawnRead, submitRules};
 ghost use Rattle.submit.specs.Inner.Decision.{refusedDecision, decided, decidedIn, decisionOf, judgedRules};
 use crate::content::content_number;
 use crate::order::order_number;
@@ -91,11 +91,11 @@ fn judge(s: Submission, t: Summary, recent: Recent) -> Decision
 }
 
 // Every rule that a sound journal is asked, group by group, with the entries that the group needs.
-fn decide_sound(area: &[u8], s: Submission, t: Summary) -> Decision
-    requires { ⌜ Counted (now area) t ⌝ }
+fn decide_sound(area: &[u8], s: Submission, t: Summary, withdrawn: bool) -> Decision
+    requires { ⌜ Counted (now area) t × (withdrawn ≡ isWithdrawnRead s (journalOf (now area) .entries)) ⌝ }
     ensures { λ r. ⌜ r ≡ decidedIn s (journalOf (now (area .entry))) (firstBroken (submitRules s (journalOf (now (area .entry))))) ⌝ }
 {
-    let content = content_number(area, s, t);
+    let content = content_number(s, t.limit, withdrawn);
     if content != Number::ACCEPTED {
         return refused(content);
     }
@@ -117,9 +117,11 @@ pub(crate) fn decide(area: &[u8], s: Submission) -> Decision
     requires { ⌜ length (now area) ≡ areaBytes ⌝ }
     ensures { λ r. ⌜ r ≡ decisionOf s (now (area .entry)) ⌝ }
 {
-    match judge_area(area) {
+    let judgement = judge_area(area, s.day, s.value);
+    let found = judgement.found;
+    match found {
         Judged::Zero => refused(Number::NO_METER),
         Judged::Damaged => refused(Number::DAMAGED),
-        Judged::Sound(t) => decide_sound(area, s, t),
+        Judged::Sound(t) => decide_sound(area, s, t, judgement.withdrawn),
     }
 }

@@ -1,6 +1,6 @@
 -- What an area is, with what is counted of a sound one's entries.
 use mathlib.Core.Path.{_≡_}
-use mathlib.Core.Bool.{true, not, _&&_, cond}
+use mathlib.Core.Bool.{Bool, true, false, not, _&&_, cond}
 use mathlib.Core.List.{List}
 use Prim.Native.Nat.{ℕ}
 use lib.Dec.{eqb}
@@ -19,11 +19,12 @@ use Rattle.judge.specs.declared.area.Counts.{Counts}
 use Rattle.judge.specs.declared.area.Summary.{Summary}
 use Rattle.judge.specs.declared.area.Judged.{Judged}
 use Rattle.judge.specs.declared.area.Judged.the-variants.{Zero, Damaged, Sound}
+use Rattle.judge.specs.declared.area.Judgement.{Judgement}
 use Rattle.journal.specs.Journal.{Journal, journalOf, entriesTo, countFrom, standing, withdrawn, kept, isFlagged, firstValue, newestAt}
 use Rattle.journal.specs.Numbers.{areaRules}
 use Rattle.judge.specs.Numbers.{judgedNumber}
-use Rattle.journal.specs.Sound.{isSound, areSound, any, isFinalRead}
-use Rattle.judge.specs.Inner.Past.{latestDay, lastDay, marksOf}
+use Rattle.journal.specs.Sound.{isSound, areSound, any, hasRead, isFinalRead}
+use Rattle.judge.specs.Inner.Run.{lastDay}
 
 -- the value of a read, and 0 where there is none
 unfoldable pub valueOf : Slot → ℕ
@@ -47,8 +48,6 @@ summaryOf j =
       counts = countsOf (j .entries);
       last = valueOf (slotAt (standing (j .entries)) 0);
       day = lastDay (j .entries);
-      latest = latestDay (withdrawn (j .entries));
-      marks = marksOf (j .entries);
       limit = tenTo (j .head .dials);
       entries = length (j .entries);
       ended = any isFinalRead (standing (j .entries));
@@ -73,6 +72,17 @@ judgedBody head body =
 pub record Judges (area : List ℕ) (found : Judged) : Type 0 where
   pub found-is : found ≡ judged area
   pub number-is : length area ≡ areaBytes → judgedNumber found ≡ firstBroken (areaRules area)
+
+-- whether a read that is asked for is among the withdrawn ones of a sound journal
+unfoldable pub amongIn : Judged → List ℕ → ℕ → ℕ → Bool
+amongIn Zero body day value = false
+amongIn Damaged body day value = false
+amongIn (Sound t) body day value = any (hasRead day value) (withdrawn (entriesTo (t .entries) body))
+
+-- what was found, and the answer about a read
+pub record Answers (found : Judged) (body : List ℕ) (day value : ℕ) (r : Judgement) : Type 0 where
+  pub found-is : r .found ≡ found
+  pub withdrawn-is : r .withdrawn ≡ amongIn found body day value
 
 -- an area is sound, and this is what was counted of it
 pub record Counted (area : List ℕ) (t : Summary) : Type 0 where

@@ -1,36 +1,36 @@
 -- What is kept of some of the entries.
 use mathlib.Core.List.{List}
-use Prim.Native.Nat.{ℕ, _+_, _-_}
+use Prim.Native.Nat.{ℕ}
 use lib.ListN.{length}
 use Rattle.terms.specs.declared.entry.Entry.{Entry}
-use Rattle.terms.specs.Entry.{those}
+use Rattle.terms.specs.Entry.{those, slotAt}
 use Rattle.judge.specs.declared.run.Run.{Run}
-use Rattle.journal.specs.Journal.{standing, withdrawn, isFlagged, newestAt}
-use Rattle.judge.specs.Inner.Past.{latestDay, lastDay, marksOf, doubtsIn}
+use Rattle.journal.specs.Journal.{standing, isFlagged, firstValue, newestAt}
+use Rattle.journal.specs.Inner.Loops.{dayOf}
+
+-- the day of the last standing read, and 0 where none stands
+abbrev pub lastDay : List Entry → ℕ
+lastDay es = dayOf (slotAt (standing es) 0)
 
 unfoldable pub runOf : List Entry → Run
 runOf es =
     record {
-      marks = marksOf es;
-      latest = latestDay (withdrawn es);
+      first = firstValue (standing es);
       day = lastDay es;
       count = length es;
       standing = length (standing es);
       flagged = length (those isFlagged (standing es));
       newest = newestAt es;
-      doubts = doubtsIn es;
     }
 
--- a run after plain standing reads alone, to a count and a day
-unfoldable pub plainTo : Run → ℕ → ℕ → Run
-plainTo from k day =
+-- a run after plain entries alone, to a count
+unfoldable pub ranTo : Run → ℕ → ℕ → ℕ → ℕ → Run
+ranTo from count day newest standing =
     record {
-      marks = from .marks;
-      latest = from .latest;
+      first = from .first;
       day = day;
-      count = k;
-      standing = from .standing + (k - from .count);
+      count = count;
+      standing = standing;
       flagged = from .flagged;
-      newest = k - 1;
-      doubts = from .doubts;
+      newest = newest;
     }

@@ -1,20 +1,19 @@
--- Where nothing may clash, nothing does.
-use mathlib.Core.Path.{sym, _∙_}
+-- Where the pass says that they are apart they are.
+use mathlib.Core.Path.{sym}
 use Rattle.journal.proofs.InOrder.{days-rise}
-use Rattle.judge.proofs.Doubts.{undoubted}
-use Rattle.judge.proofs.Runs.{run-doubts, run-day}
+use Rattle.judge.proofs.Passes.{pass-run}
+use Rattle.judge.proofs.Runs.{run-day}
 use Rattle.judge.proofs.apart.is_apart.Statement.{statement}
 use Rattle.judge.proofs.apart.is_apart.Tie as tie
 
 returns : tie.Need-returns
-returns c =
-    let start = c .before .before .before in
-    sym (undoubted (start .args .head) _ (start .pre .2) (sym (run-doubts _ (start .pre .1)) ∙ c .if1 .taken))
+returns c = sym (c .before .before .pre .1 .apart (c .if1 .taken))
 
 are-apart-requires : tie.Need-are-apart-requires
 are-apart-requires c κs =
     let start = c .before .before .before in
-    (start .pre .0, (run-day _ (start .pre .1), days-rise (start .args .head) _ (start .pre .2)))
+    let is = start .pre .1 in
+    (start .pre .0, (run-day _ (pass-run _ _ _ (is .same)), days-rise (start .args .head) _ (is .ordered)))
 
 returns-2 : tie.Need-returns-2
 returns-2 c = c .are-apart .ensures

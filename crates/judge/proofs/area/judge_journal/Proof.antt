@@ -14,6 +14,7 @@ use Rattle.judge.specs.declared.area.Judged.the-variants.{Damaged}
 use Rattle.journal.specs.Journal.{entryCount, journalOf}
 use Rattle.journal.specs.Sound.{isHead, isSound}
 use Rattle.judge.specs.Inner.Judged.{judged, judgedBody}
+use Rattle.judge.proofs.Verdicts.{damaged-answers}
 use Rattle.judge.proofs.area.judge_journal.Statement.{statement}
 use Rattle.judge.proofs.area.judge_journal.Tie as tie
 
@@ -43,10 +44,14 @@ head-at-requires c κs = search needs
 is-head-requires : tie.Need-is-head-requires
 is-head-requires c κs = search needs
 
+no-journal-requires : tie.Need-no-journal-requires
+no-journal-requires c κs = search needs
+
 returns : tie.Need-returns
 returns c =
-    let start = c .before .before .before .before in
-    sym (headless _ (start .pre) (sym (c .before .is-head .ensures) ∙ not-true _ (c .if1 .taken)))
+    let checked = c .before .before in
+    let start = checked .before .before .before in
+    damaged-answers (c .no-journal .ensures) (headless _ (start .pre) (sym (checked .is-head .ensures) ∙ not-true _ (c .before .if1 .taken)))
 
 head-bytes-requires : tie.Need-head-bytes-requires
 head-bytes-requires c κs = search needs
@@ -84,6 +89,7 @@ judge-journal-spec =
     (tie.spec
     head-at-requires
     is-head-requires
+    no-journal-requires
     returns
     head-bytes-requires
     sub-judge-body

@@ -6,7 +6,8 @@ use native.Mathlib.Omega.{arith}
 use borrow.Author.Tests.{not-false}
 use Rattle.journal.specs.Journal.{isFlagged}
 use Rattle.judge.specs.Inner.Run.{runOf}
-use Rattle.judge.proofs.Passes.{start-zero, starts-none, first-run, starts-first}
+use Rattle.judge.specs.Inner.Pass.{First}
+use Rattle.judge.proofs.Passes.{start-zero, starts-none, first-run, first-stands, starts-first}
 use borrow.Author.Needs.{needs}
 use Rattle.judge.proofs.pass.open_over.Statement.{statement}
 use Rattle.judge.proofs.pass.open_over.Tie as tie
@@ -29,7 +30,7 @@ returns-2 c = starts-none _ _ _ (c .before .before .before .before .before .star
 stand-requires : tie.Need-stand-requires
 stand-requires c κs =
     let zero = start-zero (c .before .before .before .before .before .start-pass .ensures .0) in
-    (omega (arith, zero .0), omega (arith, zero .1), omega (arith, zero .3))
+    (omega (arith, zero .0), omega (arith, zero .1))
 
 module _ (c : tie.After-stand) where
   abbrev first : tie.After-is-first
@@ -44,16 +45,20 @@ module _ (c : tie.After-stand) where
   one : c .stand .result .count ≡ 1
   one = c .stand .ensures .0 ∙ ap (λ (n : ℕ). n + 1) (start-zero none .0)
 
+  is-first : First (started .before .before .args .limits .limit) (first .before .entry-at .result)
+  is-first = first .is-first .ensures (not-false _ (c .before .if2 .left))
+
   opened : c .stand .result ≡ runOf (first .before .entry-at .result ∷ [])
   unfolding isFlagged
   opened =
-      let is = first .is-first .ensures (not-false _ (c .before .if2 .left)) in
-      c .stand .ensures .1 [] (is .stands) (rw (is .flag) (sym (start-zero none .2))) none
+      c .stand .ensures .1 [] (is-first .stands) (rw (is-first .flag) (sym (start-zero none .2))) none
 
 plain-over-requires : tie.Need-plain-over-requires
 plain-over-requires c κs =
     let start = started c .before .before in
-    (start .pre, omega (arith, one c, first c .before .before .if1 .left), first-run _ (start .args .limits) _ (first c .before .entry-at .ensures) (one c) (opened c))
+    let l = start .args .limits in
+    let read = first c .before .entry-at .ensures in
+    (start .pre, omega (arith, one c, first c .before .before .if1 .left), first-run _ l read _ (one c) (opened c), first-stands _ l read _ (one c) (opened c) (is-first c .stands))
 
 returns-3 : tie.Need-returns-3
 returns-3 c =
@@ -62,10 +67,11 @@ returns-3 c =
     _
     _
     (first at .before .entry-at .ensures)
-    (first at .is-first .ensures (not-false _ (at .before .if2 .left)))
+    (is-first at)
     (omega (arith, first at .before .before .if1 .left))
     (one at)
-    (c .plain-over .ensures)
+    (c .plain-over .ensures .runs)
+    (c .plain-over .ensures .none)
 
 pub open-over-spec : {M : Type 1} → statement M
 open-over-spec =

@@ -1,4 +1,5 @@
 -- What one more entry changes is `pass-more`.
+use mathlib.Core.Path.{refl}
 use Rattle.judge.proofs.Passes.{pass-more, pass-run}
 use borrow.Author.Needs.{needs}
 use Rattle.judge.proofs.pass.pass_with.Statement.{statement}
@@ -10,11 +11,8 @@ may-follow-requires c κs = search needs
 is-standing-requires : tie.Need-is-standing-requires
 is-standing-requires c κs = search needs
 
-first-with-requires : tie.Need-first-with-requires
-first-with-requires c κs = search needs
-
 count-requires : tie.Need-count-requires
-count-requires c κs = c .before .before .before .before .before .pre
+count-requires c κs = search needs
 
 is-held-requires : tie.Need-is-held-requires
 is-held-requires c κs = search needs
@@ -24,22 +22,22 @@ is-final-requires c κs = search needs
 
 returns : tie.Need-returns
 returns c =
-    let final = c .before in
+    let final = c .before .before in
     let held = final .before in
-    let counted = held .before .before .before in
-    let first = counted .before in
-    let s = first .before .before in
-    let follow = s .before in
-    λ head es l h.
-    rw (
-      pass-more,
-      ← h,
-      counted .count .ensures es (pass-run head es h),
-      first .first-with .ensures,
-      follow .may-follow .ensures head l,
-      s .is-standing .ensures,
-      held .is-held .ensures,
-      final .is-final .ensures,
+    let counted = held .before .before in
+    let s = counted .before in
+    let follow = s .before in (
+      refl,
+      λ es h. counted .count .ensures es h,
+      λ head es l h. rw (
+        pass-more head (follow .before .before .before .args .pass .apart),
+        ← h,
+        counted .count .ensures es (pass-run head _ es h),
+        follow .may-follow .ensures head l,
+        s .is-standing .ensures,
+        held .is-held .ensures,
+        final .is-final .ensures,
+      ),
     )
 
 pub pass-with-spec : {M : Type 1} → statement M
@@ -48,7 +46,6 @@ pass-with-spec =
     (tie.spec
     may-follow-requires
     is-standing-requires
-    first-with-requires
     count-requires
     is-held-requires
     is-final-requires

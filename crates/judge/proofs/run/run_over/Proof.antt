@@ -1,43 +1,141 @@
--- The run over the entries passed; each turn passes one more.
-use Prim.Native.Nat.{_-_}
+-- The run is that over the entries passed, and the withdrawn ones of them are in the index; each turn passes one more.
+use mathlib.Core.Path.{_≡_, refl, sym, ap, _∙_}
+use mathlib.Core.Bool.{Bool, true, false, not, _||_}
+use mathlib.Core.Logic.{⊎-elim}
+use Prim.Native.Nat.{ℕ, _+_, _-_, _≤_}
 use native.Mathlib.Omega.{arith}
-use Rattle.judge.specs.Inner.Plain.{RunsTo}
-use Rattle.judge.proofs.Runs.{runs-none, runs-one, run-small}
+use borrow.Author.Tests.{not-false, eqb-true}
+use lib.Dec.{eqb}
+use lib.ListN.{getD}
+use Rattle.judge.specs.Inner.Index.{bucketFor, Indexed}
+use Rattle.judge.specs.Inner.Run.{ranTo}
+use Rattle.judge.specs.Inner.Plain.{PlainBody, RunsTo}
+use Rattle.judge.proofs.Runs.{run-small, runs-none, runs-one, ran-start, ran-standing, ran-withdrawn}
+use Rattle.journal.proofs.Bools.{false-is}
+use Rattle.judge.proofs.Clashes.{stands-unwithdrawn}
+use Rattle.judge.proofs.Indexes.{indexed-pass, indexed-free, none-indexed}
+use borrow.Author.Needs.{needs}
 use Rattle.judge.proofs.run.run_over.Statement.{statement}
 use Rattle.judge.proofs.run.run_over.Tie as tie
 
 abbrev Inv-loop : tie.InvT-loop
-Inv-loop body limits run₀ run = RunsTo body limits run₀ run
+Inv-loop body limits index₀ from k₀ day₀ newest₀ standing₀ index k day newest standing = (from .standing ≤ standing) × (standing ≤ k) × RunsTo body limits from (ranTo from k day newest standing) × Indexed body k index
 
 abbrev μ-loop : tie.MeasureT-loop
-μ-loop body limits run₀ run = limits .most - run .count
+μ-loop body limits index₀ from k₀ day₀ newest₀ standing₀ index k day newest standing = limits .most - k
 
 loop-holds : tie.Need-loop-holds Inv-loop μ-loop
-loop-holds c = let start = c .before in runs-none _ _ _ (start .pre .2) (start .pre .1)
+loop-holds c =
+    let start = c .before in
+    let from = start .args .from in
+    (omega arith, run-small from _ _ (start .pre .0 .2) .1, rw (ran-start from) (runs-none _ _ _ (start .pre .0 .2) (start .pre .0 .1)), start .pre .1)
 
 entry-at-requires : tie.Need-entry-at-requires Inv-loop μ-loop
-entry-at-requires c κs = omega (arith, c .before .before .before .before .before .pre .0, c .if1 .taken)
+entry-at-requires c κs = omega (arith, c .before .before .before .before .pre .0 .0, c .if1 .taken)
 
-run-on-requires : tie.Need-run-on-requires Inv-loop μ-loop
-run-on-requires c κs =
-    let loop = c .before .before .before .before in
-    let small = run-small (loop .loop .run) _ _ (loop .loop .inv .run-is) in
-    (omega (arith, c .before .if1 .taken), small .1, small .3)
+is-plain-body-requires : tie.Need-is-plain-body-requires Inv-loop μ-loop
+is-plain-body-requires c κs = search needs
 
-returns : tie.Need-returns Inv-loop μ-loop
-returns c = c .before .before .before .before .before .before .before .before .loop .inv
+bucket-of-requires : tie.Need-bucket-of-requires Inv-loop μ-loop
+bucket-of-requires c κs = search needs
+
+cast-at : tie.Need-cast-at Inv-loop μ-loop
+cast-at c = search needs
+
+element-copy-out-there : tie.Need-element-copy-out-there Inv-loop μ-loop
+element-copy-out-there c = search needs
+
+is-standing-requires : tie.Need-is-standing-requires Inv-loop μ-loop
+is-standing-requires c κs = search needs
+
+is-clear-requires : tie.Need-is-clear-requires Inv-loop μ-loop
+is-clear-requires c κs =
+    let in-turn = c .before .before .before .before .before .before .before in
+    (omega (arith, in-turn .before .before .before .before .pre .0 .0, in-turn .if1 .taken), omega (arith, in-turn .if1 .taken))
+
+add-standing : tie.Need-add-standing Inv-loop μ-loop
+add-standing c = omega arith
+
+is-withdrawn-requires : tie.Need-is-withdrawn-requires Inv-loop μ-loop
+is-withdrawn-requires c κs = search needs
+
+add-index : tie.Need-add-index Inv-loop μ-loop
+add-index c = omega arith
+
+element-write-index : tie.Need-element-write-index Inv-loop μ-loop
+element-write-index c = search needs
+
+add-k : tie.Need-add-k Inv-loop μ-loop
+add-k c = omega (arith, c .before .before .before .before .before .before .before .if1 .taken)
 
 loop-less : tie.Need-loop-less Inv-loop μ-loop
-loop-less c = omega (arith, c .before .before .before .run-on .ensures (c .if2 .left) .count, c .before .before .before .before .before .if1 .taken)
+loop-less c = omega (arith, c .before .before .before .before .before .before .before .if1 .taken)
+
+neither : (x y : Bool) → not x || not y ≡ false → (x ≡ true) × (y ≡ true)
+neither true true h = (refl, refl)
+neither true false h = false-is (sym h)
+neither false y h = false-is (sym h)
+
+-- ---- a plain entry
+module _ (c : tie.Joined3 Inv-loop μ-loop) where
+  abbrev kind : tie.After-is-standing Inv-loop μ-loop
+  kind = c .before
+
+  abbrev bucket : tie.After-bucket-of Inv-loop μ-loop
+  bucket = kind .before .before
+
+  abbrev read : tie.After-entry-at Inv-loop μ-loop
+  read = bucket .before .before .before
+
+  abbrev loop : tie.At-loop Inv-loop μ-loop
+  loop = read .before .before .before
+
+  abbrev start : tie.Start Inv-loop μ-loop
+  start = loop .before .before
+
+  plain : PlainBody (start .args .limits) (loop .loop .day) (read .entry-at .result)
+  plain = bucket .before .before .is-plain-body .ensures (not-false _ (bucket .before .if2 .left))
 
 loop-again : tie.Need-loop-again Inv-loop μ-loop
+unfolding ranTo
 loop-again c =
-    let ran = c .before .before .before in
-    let read = ran .before in
-    runs-one (read .before .before .before .before .loop .inv) (read .before .if1 .taken) (read .entry-at .ensures) (ran .run-on .ensures (c .if2 .left))
+    let inv = loop c .loop .inv in
+    let at = bucket c .bucket-of .ensures in
+    let from = start c .args .from in
+    let e = read c .entry-at .ensures in
+    let turn = read c .before .if1 .taken in
+    let some : loop c .loop .standing ≡ 0 → ⊥ = λ z. start c .pre .0 .3 (omega (arith, inv .0)) in
+    ⊎-elim
+    (λ w.
+    (let stands = sym (kind c .is-standing .ensures) ∙ w .0 .taken in
+    let clear = rw at at (w .1 .ensures (not-false _ (w .2 .left))) in
+    rw (w .3, w .4, w .5, w .6) (
+      omega (arith, inv .0),
+      omega (arith, inv .1),
+      runs-one (inv .2) turn e (ran-standing _ _ from _ _ _ _ (plain c) stands some (none-indexed _ _ _ (inv .3) clear)),
+      indexed-pass _ _ _ (inv .3) e (stands-unwithdrawn _ stands),
+    )))
+    (λ w.
+    (let there = getD (loop c .loop .index) (bucket c .bucket-of .result) 0 in
+    let both-are = neither (w .1 .result) (eqb there 0) (w .2 .left) in
+    let gone = sym (w .1 .ensures) ∙ both-are .0 in
+    let free : getD (loop c .loop .index) (bucketFor (read c .entry-at .result)) 0 ≡ 0 = ap (λ (n : ℕ). getD (loop c .loop .index) n 0) (sym at) ∙ eqb-true there 0 (both-are .1) in
+    rw (w .3, w .4, w .5, w .6) (
+      inv .0,
+      omega (arith, inv .1),
+      runs-one (inv .2) turn e (ran-withdrawn _ _ from _ _ _ _ (plain c) gone),
+      rw at (indexed-free _ _ _ (inv .3) e free),
+    )))
+    (c .if3 .came)
 
-returns-2 : tie.Need-returns-2 Inv-loop μ-loop
-returns-2 c = c .before .before .before .loop .inv
+run-to-requires : tie.Need-run-to-requires Inv-loop μ-loop
+run-to-requires c κs = search needs
+
+returns : tie.Need-returns Inv-loop μ-loop
+unfolding ranTo
+returns c =
+    let inv = c .before .before .before .loop .inv in
+    rw (c .run-to .ensures) (inv .2, inv .3)
 
 pub run-over-spec : {M : Type 1} → statement M
 run-over-spec =
@@ -47,8 +145,18 @@ run-over-spec =
     μ-loop
     loop-holds
     entry-at-requires
-    run-on-requires
-    returns
+    is-plain-body-requires
+    bucket-of-requires
+    cast-at
+    element-copy-out-there
+    is-standing-requires
+    is-clear-requires
+    add-standing
+    is-withdrawn-requires
+    add-index
+    element-write-index
+    add-k
     loop-less
     loop-again
-    returns-2)
+    run-to-requires
+    returns)

@@ -1,14 +1,13 @@
 use mathlib.Core.Path.{refl}
 use Rattle.terms.specs.Entry.{those, slotAt}
-use Rattle.journal.specs.Journal.{newestAt}
+use Rattle.journal.specs.Journal.{firstValue, newestAt}
 use Rattle.journal.specs.Inner.Loops.{dayOf}
-use Rattle.judge.specs.Inner.Past.{latestDay, marksOf, doubtsIn}
 use Rattle.judge.specs.Inner.Run.{runOf}
 use Rattle.judge.proofs.run.start_run.Statement.{statement}
 use Rattle.judge.proofs.run.start_run.Tie as tie
 
 returns : tie.Need-returns
-unfolding runOf those slotAt newestAt dayOf latestDay marksOf doubtsIn
+unfolding runOf those slotAt firstValue newestAt dayOf
 returns c = refl
 
 pub start-run-spec : {M : Type 1} → statement M

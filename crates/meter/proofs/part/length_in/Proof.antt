@@ -21,8 +21,8 @@ enum-told c = search needs
 enum-told-2 : tie.Need-enum-told-2
 enum-told-2 c = search needs
 
-enum-known-t : tie.Need-enum-known-t
-enum-known-t c = search needs
+enum-known-found : tie.Need-enum-known-found
+enum-known-found c = search needs
 
 offset-after-requires : tie.Need-offset-after-requires
 offset-after-requires c κs = search needs
@@ -34,20 +34,20 @@ returns : tie.Need-returns
 unfolding lengthIn reportChecks
 returns c =
     let d = c .before .before in
-    rw (zero-number (λ j. []) _ (d .before .before .pre) (sym (d .judge-area .ensures .found-is) ∙ c .enum-told .given .1))
+    rw (zero-number (λ j. []) _ (d .before .before .pre) (sym (d .judge-area .ensures .0 .found-is) ∙ c .enum-told .given .1))
 
 returns-2 : tie.Need-returns-2
 unfolding lengthIn reportChecks
 returns-2 c =
     let d = c .before .before in
-    rw (damaged-number (λ j. []) _ (d .before .before .pre) (sym (d .judge-area .ensures .found-is) ∙ c .enum-told2 .given .1))
+    rw (damaged-number (λ j. []) _ (d .before .before .pre) (sym (d .judge-area .ensures .0 .found-is) ∙ c .enum-told2 .given .1))
 
 returns-3 : tie.Need-returns-3
 unfolding lengthIn reportChecks summaryOf journalOf entryOffset
 returns-3 c =
     let t = c .before .before .before in
     let d = t .before .before in
-    let sound = sound-number (λ j. []) _ (d .before .before .pre) (sym (d .judge-area .ensures .found-is) ∙ t .t .given .1) in
+    let sound = sound-number (λ j. []) _ (d .before .before .pre) (sym (d .judge-area .ensures .0 .found-is) ∙ t .found .given .1) in
     rw (c .offset-after .ensures, sound .1, sound .0 .summary, length-entries)
 
 pub length-in-spec : {M : Type 1} → statement M
@@ -57,7 +57,7 @@ length-in-spec =
     judge-area-requires
     enum-told
     enum-told-2
-    enum-known-t
+    enum-known-found
     offset-after-requires
     cast-result
     returns

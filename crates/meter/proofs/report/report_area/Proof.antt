@@ -27,14 +27,14 @@ enum-told-2 c = search needs
 refuse-report-requires-2 : tie.Need-refuse-report-requires-2
 refuse-report-requires-2 c κs = search needs
 
-enum-known-t : tie.Need-enum-known-t
-enum-known-t c = search needs
-
-cast-t6 : tie.Need-cast-t6
-cast-t6 c = search needs
+enum-known-found : tie.Need-enum-known-found
+enum-known-found c = search needs
 
 cast-t7 : tie.Need-cast-t7
 cast-t7 c = search needs
+
+cast-t8 : tie.Need-cast-t8
+cast-t8 c = search needs
 
 total-requires : tie.Need-total-requires
 total-requires c κs = search needs
@@ -43,20 +43,20 @@ returns : tie.Need-returns
 unfolding reportIn reportChecks
 returns c =
     let d = c .before .before .before in
-    rw (c .refuse-report .ensures, zero-number (λ j. []) _ (d .before .before .pre) (sym (d .judge-area .ensures .found-is) ∙ c .before .enum-told .given .1))
+    rw (c .refuse-report .ensures, zero-number (λ j. []) _ (d .before .before .pre) (sym (d .judge-area .ensures .0 .found-is) ∙ c .before .enum-told .given .1))
 
 returns-2 : tie.Need-returns-2
 unfolding reportIn reportChecks
 returns-2 c =
     let d = c .before .before .before in
-    rw (c .refuse-report2 .ensures, damaged-number (λ j. []) _ (d .before .before .pre) (sym (d .judge-area .ensures .found-is) ∙ c .before .enum-told2 .given .1))
+    rw (c .refuse-report2 .ensures, damaged-number (λ j. []) _ (d .before .before .pre) (sym (d .judge-area .ensures .0 .found-is) ∙ c .before .enum-told2 .given .1))
 
 returns-3 : tie.Need-returns-3
 unfolding reportIn reportChecks reportOf summaryOf countsOf flaggedOf
 returns-3 c =
     let found = c .before .before .before .before .before in
     let d = found .before .before in
-    let sound = sound-number (λ j. []) _ (d .before .before .pre) (sym (d .judge-area .ensures .found-is) ∙ found .t .given .1) in
+    let sound = sound-number (λ j. []) _ (d .before .before .pre) (sym (d .judge-area .ensures .0 .found-is) ∙ found .found .given .1) in
     let total = toZ-ofZ w64 _ (sfits-of (c .total .ok)) ∙ c .total .ensures _ (sound .0 .summary) in
     rw (total, sound .1, sound .0 .summary)
 
@@ -69,9 +69,9 @@ report-area-spec =
     refuse-report-requires
     enum-told-2
     refuse-report-requires-2
-    enum-known-t
-    cast-t6
+    enum-known-found
     cast-t7
+    cast-t8
     total-requires
     returns
     returns-2

@@ -14,14 +14,14 @@ use Rattle.meter.proofs.withdraw.decide_withdrawal.Statement.{statement
 use Rattle.meter.proofs.withdraw.decide_withdrawal.Tie as tie
 
 -- what was counted of a sound journal, and the number of its checks
-module _ (c : tie.After-t) where
+module _ (c : tie.After-found) where
   abbrev start : tie.Start
   start = c .before .before .before .before
 
-  sound : Counted (start .args .area .now) (c .t .given .0 .0) × (firstBroken (withdrawChecks (start .args .day) (start .args .value) (start .args .area .now)) ≡ firstBroken (withdrawRules (start .args .day) (start .args .value) (journalOf (start .args .area .now))))
+  sound : Counted (start .args .area .now) (c .found .given .0 .0) × (firstBroken (withdrawChecks (start .args .day) (start .args .value) (start .args .area .now)) ≡ firstBroken (withdrawRules (start .args .day) (start .args .value) (journalOf (start .args .area .now))))
   unfolding withdrawChecks
   sound =
-      sound-number (withdrawRules (start .args .day) (start .args .value)) _ (start .pre) (sym (c .before .before .judge-area .ensures .found-is) ∙ c .t .given .1)
+      sound-number (withdrawRules (start .args .day) (start .args .value)) _ (start .pre) (sym (c .before .before .judge-area .ensures .0 .found-is) ∙ c .found .given .1)
 
 judge-area-requires : tie.Need-judge-area-requires
 judge-area-requires c κs = search needs
@@ -32,8 +32,8 @@ enum-told c = search needs
 enum-told-2 : tie.Need-enum-told-2
 enum-told-2 c = search needs
 
-enum-known-t : tie.Need-enum-known-t
-enum-known-t c = search needs
+enum-known-found : tie.Need-enum-known-found
+enum-known-found c = search needs
 
 check-withdrawal-requires : tie.Need-check-withdrawal-requires
 check-withdrawal-requires c κs = sound (c .before) .0
@@ -50,14 +50,14 @@ unfolding withdrawDecided withdrawChecks
 returns-2 c =
     let d = c .before .before in
     let start = d .before .before in
-    decides _ _ _ (rw (zero-number (withdrawRules (start .args .day) (start .args .value)) _ (start .pre) (sym (d .judge-area .ensures .found-is) ∙ c .enum-told .given .1)))
+    decides _ _ _ (rw (zero-number (withdrawRules (start .args .day) (start .args .value)) _ (start .pre) (sym (d .judge-area .ensures .0 .found-is) ∙ c .enum-told .given .1)))
 
 returns-3 : tie.Need-returns-3
 unfolding withdrawDecided withdrawChecks
 returns-3 c =
     let d = c .before .before in
     let start = d .before .before in
-    decides _ _ _ (rw (damaged-number (withdrawRules (start .args .day) (start .args .value)) _ (start .pre) (sym (d .judge-area .ensures .found-is) ∙ c .enum-told2 .given .1)))
+    decides _ _ _ (rw (damaged-number (withdrawRules (start .args .day) (start .args .value)) _ (start .pre) (sym (d .judge-area .ensures .0 .found-is) ∙ c .enum-told2 .given .1)))
 
 returns-4 : tie.Need-returns-4
 unfolding withdrawDecided
@@ -72,7 +72,7 @@ decide-withdrawal-spec =
     judge-area-requires
     enum-told
     enum-told-2
-    enum-known-t
+    enum-known-found
     check-withdrawal-requires
     returns
     returns-2

@@ -1,14 +1,15 @@
 -- What the area is judged to be decides, and a sound journal is asked the rules.
 use mathlib.Core.Path.{_≡_, sym, _∙_}
 use Rattle.judge.specs.declared.area.Judged.{Judged}
-use Rattle.judge.proofs.Verdicts.{judged-counted}
+use Rattle.judge.proofs.Verdicts.{judged-counted, withdrawn-counted}
+use Rattle.calls.specs.Checks.{isWithdrawnRead}
 use Rattle.submit.proofs.Stages.{Means, means}
 use borrow.Author.Needs.{needs}
 use Rattle.submit.proofs.decide.decide.Statement.{statement}
 use Rattle.submit.proofs.decide.decide.Tie as tie
 
-meant : (c : tie.After-judge-area) {found : Judged} → c .judge-area .result ≡ found → Means (c .before .before .args .s) (c .before .before .args .area .now) found
-meant c h = rw (sym (c .judge-area .ensures .found-is) ∙ h) at (means (c .before .before .args .s) (c .before .before .args .area .now) (c .before .before .pre))
+meant : (c : tie.After-judge-area) {found : Judged} → c .judge-area .result .found ≡ found → Means (c .before .before .args .s) (c .before .before .args .area .now) found
+meant c h = rw (sym (c .judge-area .ensures .0 .found-is) ∙ h) at (means (c .before .before .args .s) (c .before .before .args .area .now) (c .before .before .pre))
 
 judge-area-requires : tie.Need-judge-area-requires
 judge-area-requires c κs = search needs
@@ -25,13 +26,17 @@ enum-told-2 c = search needs
 refused-requires-2 : tie.Need-refused-requires-2
 refused-requires-2 c κs = search needs
 
-enum-known-t : tie.Need-enum-known-t
-enum-known-t c = search needs
+enum-known-found : tie.Need-enum-known-found
+enum-known-found c = search needs
 
 decide-sound-requires : tie.Need-decide-sound-requires
+unfolding isWithdrawnRead
 decide-sound-requires c κs =
     let judged = c .before .before .before in
-    judged-counted (judged .before .before .args .area .now) (rw (c .before .t .given .1) at (judged .judge-area .ensures))
+    let area = judged .before .before .args .area .now in
+    let e = c .before .found .given .1 in
+    let counted = judged-counted area (rw e at (judged .judge-area .ensures .0)) in
+    (counted, withdrawn-counted area counted (judged .judge-area .ensures .1) e)
 
 returns : tie.Need-returns
 returns c = c .refused .ensures ∙ sym (meant (c .before .before .before) (c .before .enum-told .given .1))
@@ -40,7 +45,7 @@ returns-2 : tie.Need-returns-2
 returns-2 c = c .refused2 .ensures ∙ sym (meant (c .before .before .before) (c .before .enum-told2 .given .1))
 
 returns-3 : tie.Need-returns-3
-returns-3 c = c .decide-sound .ensures ∙ sym (meant (c .before .before .before .before) (c .before .before .t .given .1))
+returns-3 c = c .decide-sound .ensures ∙ sym (meant (c .before .before .before .before) (c .before .before .found .given .1))
 
 pub decide-spec : {M : Type 1} → statement M
 decide-spec =
@@ -51,7 +56,7 @@ decide-spec =
     refused-requires
     enum-told-2
     refused-requires-2
-    enum-known-t
+    enum-known-found
     decide-sound-requires
     returns
     returns-2

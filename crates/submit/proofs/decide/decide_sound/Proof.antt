@@ -5,14 +5,23 @@ use Rattle.terms.specs.declared.entry.Recent.{Recent}
 use Rattle.terms.specs.Entry.{recentOf}
 use Rattle.terms.specs.Rule.{firstBroken}
 use Rattle.journal.specs.Journal.{journalOf, standing}
-use Rattle.calls.specs.Checks.{sameDayRules, orderRules}
+use Rattle.judge.specs.declared.area.Summary.{Summary}
+use Rattle.judge.specs.Inner.Judged.{summaryOf}
+use Rattle.calls.specs.Checks.{contentRules, sameDayRules, orderRules}
 use Rattle.submit.proofs.Stages.{in-groups}
 use borrow.Author.Needs.{needs}
 use Rattle.submit.proofs.decide.decide_sound.Statement.{statement}
 use Rattle.submit.proofs.decide.decide_sound.Tie as tie
 
 content-number-requires : tie.Need-content-number-requires
-content-number-requires c κs = c .before .pre
+content-number-requires c κs = search needs
+
+-- the limit and whether the read is withdrawn are the journal's
+content-is : (c : tie.After-content-number) → let start = c .before .before in c .content-number .result ≡ firstBroken (contentRules (start .args .s) (journalOf (start .args .area .now)))
+unfolding summaryOf
+content-is c =
+    let start = c .before .before in
+    c .content-number .ensures _ (ap (λ (t : Summary). t .limit) (start .pre .0 .summary)) (start .pre .1)
 
 refused-requires : tie.Need-refused-requires
 refused-requires c κs = search needs
@@ -21,7 +30,7 @@ returns : tie.Need-returns
 returns c =
     rw (
       in-groups,
-      ← c .before .before .content-number .ensures,
+      ← content-is (c .before .before),
       ne-eqb _ _ (c .before .if1 .taken),
     )
     (c .refused .ensures)
@@ -34,7 +43,7 @@ same-day-number-requires c κs = search needs
 
 -- the read of that day is the journal's
 day-is : (c : tie.After-same-day-number) → let start = c .before .before .before .before .before in c .same-day-number .result ≡ firstBroken (sameDayRules (start .args .s) (journalOf (start .args .area .now)))
-day-is c = c .same-day-number .ensures _ (c .before .read-on .ensures (c .before .before .before .before .before .pre))
+day-is c = c .same-day-number .ensures _ (c .before .read-on .ensures (c .before .before .before .before .before .pre .0))
 
 refused-requires-2 : tie.Need-refused-requires-2
 refused-requires-2 c κs = search needs
@@ -45,7 +54,7 @@ returns-2 c =
     let e₁ = day .before .before in
     rw (
       in-groups,
-      ← e₁ .before .content-number .ensures,
+      ← content-is (e₁ .before),
       eq-eqb _ _ (e₁ .if1 .left),
       ← day-is day,
       ne-eqb _ _ (c .before .if2 .taken),
@@ -61,10 +70,10 @@ module _ (c : tie.After-recent) where
   start = c .before .before .before .before .before .before .before
 
   recent-is : c .recent .result ≡ recentOf (standing (journalOf (start .args .area .now) .entries))
-  recent-is = c .recent .ensures (start .pre)
+  recent-is = c .recent .ensures (start .pre .0)
 
 order-number-requires : tie.Need-order-number-requires
-order-number-requires c κs = start c .pre
+order-number-requires c κs = start c .pre .0
 
 order-is : (c : tie.After-order-number) → let s = start (c .before) in c .order-number .result ≡ firstBroken (orderRules (s .args .s) (journalOf (s .args .area .now)))
 unfolding recentOf
@@ -80,7 +89,7 @@ returns-3 c =
     let e₁ = e₂ .before .before .before in
     rw (
       in-groups,
-      ← e₁ .before .content-number .ensures,
+      ← content-is (e₁ .before),
       eq-eqb _ _ (e₁ .if1 .left),
       ← day-is (e₂ .before),
       eq-eqb _ _ (e₂ .if2 .left),
@@ -99,14 +108,14 @@ returns-4 c =
     let e₁ = e₂ .before .before .before in
     rw (
       in-groups,
-      ← e₁ .before .content-number .ensures,
+      ← content-is (e₁ .before),
       eq-eqb _ _ (e₁ .if1 .left),
       ← day-is (e₂ .before),
       eq-eqb _ _ (e₂ .if2 .left),
       ← order-is order,
       eq-eqb _ _ (c .before .if3 .left),
     )
-    (c .judge .ensures _ (start (order .before) .pre .summary) (recent-is (order .before)))
+    (c .judge .ensures _ (start (order .before) .pre .0 .summary) (recent-is (order .before)))
 
 pub decide-sound-spec : {M : Type 1} → statement M
 decide-sound-spec =

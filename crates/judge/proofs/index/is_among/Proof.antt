@@ -7,8 +7,8 @@ use Rattle.terms.specs.Entry.{isWithdrawn, those}
 use Rattle.journal.specs.Journal.{entriesTo, withdrawn}
 use Rattle.journal.specs.Sound.{any, hasRead}
 use Rattle.journal.proofs.Entries.{those-more, any-kept}
-use Rattle.reads.proofs.found.is_among.Statement.{statement}
-use Rattle.reads.proofs.found.is_among.Tie as tie
+use Rattle.judge.proofs.index.is_among.Statement.{statement}
+use Rattle.judge.proofs.index.is_among.Tie as tie
 
 abbrev Inv-loop : tie.InvT-loop
 Inv-loop body m day value found₀ k₀ found k = (k ≤ m) × (found ≡ any (hasRead day value) (withdrawn (entriesTo k body)))
@@ -23,6 +23,9 @@ loop-holds c = (omega arith, refl)
 entry-at-requires : tie.Need-entry-at-requires Inv-loop μ-loop
 entry-at-requires c κs = search needs
 
+is-withdrawn-requires : tie.Need-is-withdrawn-requires Inv-loop μ-loop
+is-withdrawn-requires c κs = search needs
+
 has-read-requires : tie.Need-has-read-requires Inv-loop μ-loop
 has-read-requires c κs = search needs
 
@@ -33,11 +36,11 @@ loop-less : tie.Need-loop-less Inv-loop μ-loop
 loop-less c = omega arith
 
 loop-again : tie.Need-loop-again Inv-loop μ-loop
-unfolding isWithdrawn
 loop-again c =
-    let read = c .before .before in
+    let gone = c .before in
+    let read = gone .before in
     let old = read .before .before in
-    (omega arith, rw (those-more _ _ isWithdrawn (read .entry-at .ensures) refl, any-kept, c .has-read .ensures, old .loop .inv .1))
+    (omega arith, rw (those-more _ _ isWithdrawn (read .entry-at .ensures) (gone .is-withdrawn .ensures), any-kept, c .has-read .ensures, old .loop .inv .1))
 
 returns : tie.Need-returns Inv-loop μ-loop
 returns c =
@@ -52,6 +55,7 @@ is-among-spec =
     μ-loop
     loop-holds
     entry-at-requires
+    is-withdrawn-requires
     has-read-requires
     add-k
     loop-less
