@@ -17,7 +17,7 @@ ghost use Rattle.judge.specs.Inner.Pass.{IsPass};
 use crate::apart::is_apart;
 use crate::limits::limits_of;
 use crate::pass::Pass;
-use crate::pass::pass_over;
+use crate::passed::pass_over;
 use crate::read::entry_at;
 use crate::read::head_at;
 use crate::run::Run;

@@ -10,7 +10,7 @@ pub(crate) fn mark_of(marks: u64, value: u32) -> u8
     ((marks >> bit) % 2) as u8
 }
 
-pub fn is_marked(marks: u64, value: u32) -> bool
+pub(crate) fn is_marked(marks: u64, value: u32) -> bool
     ensures { λ r. ⌜ r ≡ isMarked marks value ⌝ }
 {
     mark_of(marks, value) == 1

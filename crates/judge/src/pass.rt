@@ -1,21 +1,20 @@
 // The pass that judges the entries of a body. Runs of plain ones are taken in loops of their own, which carry less.
 ghost use mathlib.Core.Path.{_≡_};
 ghost use mathlib.Core.Bool.{true, _&&_};
-ghost use mathlib.Core.List.{List, [], _∷_};
-ghost use Prim.Native.Nat.{_+_, _-_, _≤_, _<_};
+ghost use mathlib.Core.List.{List, _∷_};
+ghost use Prim.Native.Nat.{_+_, _≤_, _<_};
 ghost use lib.ListN.{length};
 ghost use Rattle.arithmetic.specs.Powers.{tenTo};
 ghost use Rattle.terms.specs.declared.entry.Entry.{Entry};
 ghost use Rattle.register.specs.declared.head.Head.{Head};
 ghost use Rattle.register.specs.Entries.{entryStart, entryAt};
-ghost use Rattle.journal.specs.Journal.{entriesTo, countFrom};
+ghost use Rattle.journal.specs.Journal.{entriesTo};
 ghost use Rattle.judge.specs.Inner.Index.{crowded, buckets, Indexed};
 ghost use Rattle.judge.specs.Inner.Run.{runOf};
 ghost use Rattle.judge.specs.Inner.Plain.{IsLimits};
-ghost use Rattle.judge.specs.Inner.Pass.{passOf, First, IsClear, Starts, PassesTo, GoesOn, IsPassed, HasPassed};
+ghost use Rattle.judge.specs.Inner.Pass.{passOf, IsClear, Starts, PassesTo, GoesOn, IsPassed};
 use crate::index::Index;
 use crate::index::bucket_of;
-use crate::index::has_withdrawn;
 use crate::index::is_clear;
 use crate::index::put;
 use crate::limits::Limits;
@@ -24,8 +23,6 @@ use crate::run::Run;
 use crate::run::count;
 use crate::run::plain_over;
 use crate::run::run_over;
-use crate::run::stand;
-use crate::run::start_run;
 use journal::order::is_final;
 use journal::order::is_held;
 use journal::order::is_standing;
@@ -34,7 +31,6 @@ use journal::order::may_follow;
 use register::area::Layout;
 use register::head::Head;
 use terms::entry::Entry;
-use terms::letter::is_opening;
 
 pub struct Pass {
     pub run: Run,
@@ -46,25 +42,6 @@ pub struct Pass {
     pub ended: bool,
     // No standing read has both the day and the value of a withdrawn one, for sure.
     pub apart: bool,
-}
-
-pub struct Passed {
-    pub pass: Pass,
-    // The read that was asked for is withdrawn.
-    pub withdrawn: bool,
-}
-
-fn start_pass() -> Pass
-    ensures { λ r. ⌜ (r .run ≡ runOf []) × ((head : Head) → r ≡ passOf head (r .apart) []) ⌝ }
-{
-    let run = start_run();
-    Pass {
-        run,
-        ordered: true,
-        held: false,
-        ended: false,
-        apart: true,
-    }
 }
 
 // One entry more: whether it may follow, and whether it is clear of those before it.
@@ -82,52 +59,6 @@ fn pass_with(pass: Pass, limit: u32, clear: bool, e: Entry) -> Pass
         held: is_held(e),
         ended: (stands & is_final(e)) | pass.ended,
         apart: pass.apart & clear,
-    }
-}
-
-// A read that opens a journal, with no indicator: never yes wrongly. Indicator and flag are tested together.
-fn is_first(limit: u32, e: Entry) -> bool
-    ensures { λ r. ⌜ (r ≡ true → First limit e) ⌝ }
-{
-    if !is_standing(e) {
-        return false;
-    }
-    if e.day == 0 {
-        return false;
-    }
-    if limit <= e.value {
-        return false;
-    }
-    if !is_opening(e.letter) {
-        return false;
-    }
-    let indicator = e.indicator as u16;
-    let flag = e.flag as u16;
-    indicator + 256 * flag == 0
-}
-
-// Past the read that opens the journal and the plain standing ones that follow it, which many journals are all of. What else may be at the
-// start is left to the way that knows all the rules.
-fn open_over(body: &[u8], limits: Limits) -> Pass
-    requires { ⌜ entryStart (limits .most) ≤ length (now body) ⌝ }
-    ensures { λ r. ⌜ Starts (now (body .entry)) limits r ⌝ }
-{
-    let start = start_pass();
-    if limits.most == 0 {
-        return start;
-    }
-    let e = entry_at(body, 0);
-    if !is_first(limits.limit, e) {
-        return start;
-    }
-    let opened = stand(start.run, 0, e);
-    let run = plain_over(body, limits, opened);
-    Pass {
-        run,
-        ordered: true,
-        held: false,
-        ended: false,
-        apart: true,
     }
 }
 
@@ -199,7 +130,7 @@ fn pass_next(body: &[u8], limits: Limits, index: &mut [u8; Index::BUCKETS], pass
 }
 
 // Past all entries that follow, to the first zero kind byte. It ends at the first that is not in order.
-fn pass_rest(
+pub(crate) fn pass_rest(
     body: &[u8],
     head: Head,
     limits: Limits,
@@ -226,57 +157,4 @@ fn pass_rest(
         at = run.count;
     }
     pass
-}
-
-// The same with an index of its own, in which the read that is asked for is looked up.
-fn pass_indexed(
-    body: &[u8],
-    head: Head,
-    limits: Limits,
-    opened: Pass,
-    day: u16,
-    value: u32,
-) -> Passed
-    requires { ⌜ (entryStart (limits .most) ≤ length (now body)) × IsLimits head limits × Starts (now body) limits opened ⌝ }
-    ensures { λ r. ⌜ HasPassed head (now (body .entry)) day value r ⌝ }
-{
-    let mut index = [0; Index::BUCKETS];
-    let pass = pass_rest(body, head, limits, &mut index, opened);
-    if !pass.ordered {
-        return Passed {
-            pass,
-            withdrawn: false,
-        };
-    }
-    let run = pass.run;
-    let withdrawn = has_withdrawn(body, run.count, &index, day, value);
-    Passed { pass, withdrawn }
-}
-
-// No entry follows the first `at`.
-fn is_end(body: &[u8], most: u8, at: u8) -> bool
-    requires { ⌜ (entryStart most ≤ length (now body)) × (at ≤ most) ⌝ }
-    ensures { λ r. ⌜ (r ≡ true → countFrom (most - at) at (now (body .entry)) ≡ at) ⌝ }
-{
-    if at == most {
-        return true;
-    }
-    body[Layout::ENTRY_BYTES * (at as usize)] == 0
-}
-
-// Whether the entries of a body are in order, to the first zero kind byte, and whether a read is among the withdrawn ones. An index is made
-// only where there is more than the reads that a journal opens with.
-pub(crate) fn pass_over(body: &[u8], head: Head, limits: Limits, day: u16, value: u32) -> Passed
-    requires { ⌜ (entryStart (limits .most) ≤ length (now body)) × IsLimits head limits ⌝ }
-    ensures { λ r. ⌜ HasPassed head (now (body .entry)) day value r ⌝ }
-{
-    let opened = open_over(body, limits);
-    let run = opened.run;
-    if is_end(body, limits.most, run.count) {
-        return Passed {
-            pass: opened,
-            withdrawn: false,
-        };
-    }
-    pass_indexed(body, head, limits, opened, day, value)
 }

@@ -12,7 +12,7 @@ use Rattle.register.specs.Entries.{entryStart}
 use Rattle.register.specs.Head.{mostEntries}
 use Rattle.judge.specs.declared.limits.Limits.{Limits}
 use Rattle.judge.specs.declared.pass.Pass.{Pass}
-use Rattle.judge.specs.declared.pass.Passed.{Passed}
+use Rattle.judge.specs.declared.passed.Passed.{Passed}
 use Rattle.judge.specs.declared.run.Run.{Run}
 use Rattle.journal.specs.Journal.{entriesTo, countFrom, standing, withdrawn, heldOf, isThere}
 use Rattle.journal.specs.Sound.{any, isFinalRead, hasRead, daysRise, areInOrder, areApart}

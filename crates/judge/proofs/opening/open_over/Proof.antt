@@ -9,8 +9,8 @@ use Rattle.judge.specs.Inner.Run.{runOf}
 use Rattle.judge.specs.Inner.Pass.{First}
 use Rattle.judge.proofs.Passes.{start-zero, starts-none, first-run, first-stands, starts-first}
 use borrow.Author.Needs.{needs}
-use Rattle.judge.proofs.pass.open_over.Statement.{statement}
-use Rattle.judge.proofs.pass.open_over.Tie as tie
+use Rattle.judge.proofs.opening.open_over.Statement.{statement}
+use Rattle.judge.proofs.opening.open_over.Tie as tie
 
 start-pass-requires : tie.Need-start-pass-requires
 start-pass-requires c κs = search needs

@@ -5,8 +5,8 @@ use borrow.Author.Tests.{not-true, not-false}
 use Rattle.journal.proofs.Bools.{false-is}
 use Rattle.judge.proofs.Passes.{passed-few}
 use borrow.Author.Needs.{needs}
-use Rattle.judge.proofs.pass.pass_indexed.Statement.{statement}
-use Rattle.judge.proofs.pass.pass_indexed.Tie as tie
+use Rattle.judge.proofs.passed.pass_indexed.Statement.{statement}
+use Rattle.judge.proofs.passed.pass_indexed.Tie as tie
 
 pass-rest-requires : tie.Need-pass-rest-requires
 pass-rest-requires c κs = search needs

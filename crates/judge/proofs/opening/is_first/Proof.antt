@@ -5,8 +5,8 @@ use native.Mathlib.Omega.{arith}
 use borrow.Author.Tests.{eqb-true, not-false}
 use Rattle.journal.proofs.Bools.{false-is}
 use borrow.Author.Needs.{needs}
-use Rattle.judge.proofs.pass.is_first.Statement.{statement}
-use Rattle.judge.proofs.pass.is_first.Tie as tie
+use Rattle.judge.proofs.opening.is_first.Statement.{statement}
+use Rattle.judge.proofs.opening.is_first.Tie as tie
 
 is-standing-requires : tie.Need-is-standing-requires
 is-standing-requires c κs = search needs

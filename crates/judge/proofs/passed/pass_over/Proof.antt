@@ -3,8 +3,8 @@ use mathlib.Core.Path.{refl, sym}
 use Rattle.judge.proofs.Runs.{none-withdrawn}
 use Rattle.judge.proofs.Passes.{all-passed}
 use borrow.Author.Needs.{needs}
-use Rattle.judge.proofs.pass.pass_over.Statement.{statement}
-use Rattle.judge.proofs.pass.pass_over.Tie as tie
+use Rattle.judge.proofs.passed.pass_over.Statement.{statement}
+use Rattle.judge.proofs.passed.pass_over.Tie as tie
 
 open-over-requires : tie.Need-open-over-requires
 open-over-requires c κs = search needs

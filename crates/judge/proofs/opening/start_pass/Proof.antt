@@ -3,8 +3,8 @@ use Rattle.journal.specs.Journal.{heldOf, isThere, firstValue}
 use Rattle.journal.specs.Sound.{every, any, daysRise, opensRight, hasOneFinal, isHeldRight, areInOrder}
 use Rattle.judge.specs.Inner.Pass.{passOf}
 use borrow.Author.Needs.{needs}
-use Rattle.judge.proofs.pass.start_pass.Statement.{statement}
-use Rattle.judge.proofs.pass.start_pass.Tie as tie
+use Rattle.judge.proofs.opening.start_pass.Statement.{statement}
+use Rattle.judge.proofs.opening.start_pass.Tie as tie
 
 start-run-requires : tie.Need-start-run-requires
 start-run-requires c κs = search needs

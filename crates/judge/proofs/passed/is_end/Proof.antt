@@ -3,8 +3,8 @@ use native.Mathlib.Omega.{arith}
 use borrow.Author.Tests.{eqb-true}
 use Rattle.journal.proofs.Entries.{count-ends, count-all}
 use borrow.Author.Needs.{needs}
-use Rattle.judge.proofs.pass.is_end.Statement.{statement}
-use Rattle.judge.proofs.pass.is_end.Tie as tie
+use Rattle.judge.proofs.passed.is_end.Statement.{statement}
+use Rattle.judge.proofs.passed.is_end.Tie as tie
 
 returns : tie.Need-returns
 returns c = λ h. count-all _ _ _ (omega (arith, c .if1 .taken))
