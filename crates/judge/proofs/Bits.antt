@@ -4,7 +4,7 @@ use mathlib.Core.Bool.{Bool, true, false, not, _&&_, _||_}
 use Prim.Native.Nat.{ℕ, zero, suc, _+_, _-_, _*_, _/_, _%_, _^_, _≤_, _<_}
 use native.Mathlib.Nat.{mod-lt, mod-eq-of-lt, div-self, one-mul}
 use native.Mathlib.Omega.{arith}
-use borrow.Author.Tests.{eqb-true, eq-eqb, leb-true, leb-false, not-true}
+use borrow.Author.Tests.{eqb-true, eq-eqb, leb-true, not-true}
 use lib.Bits.{bitOr, or-shr, or-mod, or-comm}
 use lib.Dec.{leb}
 use lib.Pow.{pow-pos, pow-lt}

@@ -5,7 +5,7 @@ use mathlib.Core.List.{List, []}
 use Prim.Native.Nat.{ℕ, zero, suc, _+_, _-_, _%_, _≤_, _<_}
 use native.Mathlib.Nat.{mod-lt}
 use native.Mathlib.Omega.{arith}
-use borrow.Author.Tests.{eqb-true, eqb-false, eq-eqb}
+use borrow.Author.Tests.{eqb-true, eqb-false, eq-eqb, ne-eqb}
 use lib.Dec.{eqb}
 use lib.ListN.{length, getD, set, length-set}
 use lib.Seq.{getD-set-same, getD-set-other}
@@ -109,6 +109,11 @@ module _ (body : List ℕ) where
       pub indexed-free : getD index (bucketFor e) 0 ≡ 0 → Indexed body (k + 1) (set index (bucketFor e) (k + 1))
       unfolding putIn
       indexed-free free = rw (eq-eqb (getD index (bucketFor e) 0) 0 free) at indexed-put
+
+      -- one that was taken
+      pub indexed-taken : (getD index (bucketFor e) 0 ≡ 0 → ⊥) → Indexed body (k + 1) (set index (bucketFor e) crowded)
+      unfolding putIn
+      indexed-taken taken = rw (ne-eqb (getD index (bucketFor e) 0) 0 taken) at indexed-put
 
   -- ---- what a bucket rules out
   module _ (day value : ℕ) {k : ℕ} {index : List ℕ} (is : Indexed body k index) (clear : Clear body (getD index (bucketOf day value) 0) day value) where

@@ -18,7 +18,7 @@ pub struct Index;
 impl Index {
     pub const BUCKETS: usize = 256;
     // Above every position, since no journal has so many entries.
-    const CROWDED: u8 = 255;
+    pub(crate) const CROWDED: u8 = 255;
 }
 
 // The bucket of a read.

@@ -182,8 +182,8 @@ pub(crate) fn plain_over(body: &[u8], limits: Limits, from: Run) -> Run
     run_to(from, k, day, one_less(k), k)
 }
 
-// Past the plain entries that follow. A withdrawn one is put into the index; where its bucket is taken, or that of a standing one leaves it
-// in doubt, the run ends.
+// Past the plain entries that follow. A withdrawn one is put into the index; where the bucket of a standing one leaves it in doubt, the run
+// ends. What `index::put` does is written out here: called, it takes twice the instructions.
 pub(crate) fn run_over(
     body: &[u8],
     limits: Limits,
@@ -213,10 +213,14 @@ pub(crate) fn run_over(
             newest = k;
             standing += 1;
         } else {
-            if !is_withdrawn(e) | (there != 0) {
+            if !is_withdrawn(e) {
                 break;
             }
-            index[at] = k + 1;
+            if there == 0 {
+                index[at] = k + 1;
+            } else {
+                index[at] = Index::CROWDED;
+            }
         }
         k += 1;
     }

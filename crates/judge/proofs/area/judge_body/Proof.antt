@@ -6,7 +6,6 @@ use native.Mathlib.Omega.{arith}
 use borrow.Author.Tests.{not-true, not-false}
 use lib.ListN.{length}
 use Rattle.register.specs.Entries.{entryStart}
-use Rattle.judge.specs.declared.area.Judged.the-variants.{Sound}
 use Rattle.judge.specs.Inner.Pass.{IsPassed}
 use Rattle.judge.proofs.Passes.{pass-run}
 use Rattle.judge.proofs.Verdicts.{body-disordered, body-clashing, body-unended, body-judged, pass-room, damaged-answers, sound-answers}

@@ -1,7 +1,6 @@
 -- An empty bucket has none, a crowded one leaves it to the entries, and any other has the only one that can be it.
-use mathlib.Core.Path.{_≡_, sym, ap, _∙_}
+use mathlib.Core.Path.{sym, ap}
 use Prim.Native.Nat.{ℕ}
-use native.Mathlib.Omega.{arith}
 use lib.ListN.{getD}
 use Rattle.judge.proofs.Indexes.{none-indexed, empty-clear, one-indexed}
 use borrow.Author.Needs.{needs}

@@ -1,7 +1,5 @@
 -- A withdrawn entry is put into the index, and is clear if it is later than all that stand; a standing one is as its bucket says.
-use mathlib.Core.Path.{_≡_, refl, sym, _∙_}
-use Prim.Native.Nat.{_<_}
-use native.Mathlib.Omega.{arith}
+use mathlib.Core.Path.{sym, _∙_}
 use borrow.Author.Tests.{ltb-true, not-true, not-false}
 use Rattle.judge.proofs.Clashes.{stands-unwithdrawn, free-standing, free-withdrawn, free-other}
 use Rattle.judge.proofs.Indexes.{indexed-pass, indexed-put, none-indexed}

@@ -1,5 +1,4 @@
 -- The entry is compared with those before it, and the pass with it is that of one entry more.
-use mathlib.Core.Path.{_≡_, sym, _∙_}
 use native.Mathlib.Omega.{arith}
 use Rattle.judge.proofs.Runs.{run-small}
 use Rattle.judge.proofs.Passes.{entry-on, entry-count}

@@ -1,5 +1,5 @@
 -- A standing entry, and one that changes only the count.
-use mathlib.Core.Path.{_≡_, sym, _∙_}
+use mathlib.Core.Path.{sym, _∙_}
 use Rattle.judge.proofs.Runs.{run-more}
 use borrow.Author.Needs.{needs}
 use Rattle.judge.proofs.run.count.Statement.{statement}

@@ -1,10 +1,9 @@
 -- The run to a count and a day is that over the entries passed, which all stand; each turn passes one more.
-use mathlib.Core.Path.{_≡_, refl, sym, ap, _∙_}
+use mathlib.Core.Path.{_≡_, _∙_}
 use mathlib.Core.List.{[]}
 use Prim.Native.Nat.{_+_, _-_, _≤_}
 use native.Mathlib.Omega.{arith}
 use borrow.Author.Tests.{not-false}
-use Rattle.terms.specs.Entry.{those}
 use Rattle.journal.specs.Journal.{entriesTo, withdrawn}
 use Rattle.judge.specs.Inner.Run.{ranTo}
 use Rattle.judge.specs.Inner.Plain.{RunsTo}

@@ -1,19 +1,16 @@
 -- The run is that over the entries passed, and the withdrawn ones of them are in the index; each turn passes one more.
-use mathlib.Core.Path.{_≡_, refl, sym, ap, _∙_}
-use mathlib.Core.Bool.{Bool, true, false, not, _||_}
+use mathlib.Core.Path.{_≡_, sym, ap, _∙_}
 use mathlib.Core.Logic.{⊎-elim}
-use Prim.Native.Nat.{ℕ, _+_, _-_, _≤_}
+use Prim.Native.Nat.{ℕ, _-_, _≤_}
 use native.Mathlib.Omega.{arith}
-use borrow.Author.Tests.{not-false, eqb-true}
-use lib.Dec.{eqb}
+use borrow.Author.Tests.{not-false}
 use lib.ListN.{getD}
 use Rattle.judge.specs.Inner.Index.{bucketFor, Indexed}
 use Rattle.judge.specs.Inner.Run.{ranTo}
 use Rattle.judge.specs.Inner.Plain.{PlainBody, RunsTo}
 use Rattle.judge.proofs.Runs.{run-small, runs-none, runs-one, ran-start, ran-standing, ran-withdrawn}
-use Rattle.journal.proofs.Bools.{false-is}
 use Rattle.judge.proofs.Clashes.{stands-unwithdrawn}
-use Rattle.judge.proofs.Indexes.{indexed-pass, indexed-free, none-indexed}
+use Rattle.judge.proofs.Indexes.{indexed-pass, indexed-free, indexed-taken, none-indexed}
 use borrow.Author.Needs.{needs}
 use Rattle.judge.proofs.run.run_over.Statement.{statement}
 use Rattle.judge.proofs.run.run_over.Tie as tie
@@ -65,16 +62,14 @@ add-index c = omega arith
 element-write-index : tie.Need-element-write-index Inv-loop μ-loop
 element-write-index c = search needs
 
+element-write-index-2 : tie.Need-element-write-index-2 Inv-loop μ-loop
+element-write-index-2 c = search needs
+
 add-k : tie.Need-add-k Inv-loop μ-loop
 add-k c = omega (arith, c .before .before .before .before .before .before .before .if1 .taken)
 
 loop-less : tie.Need-loop-less Inv-loop μ-loop
 loop-less c = omega (arith, c .before .before .before .before .before .before .before .if1 .taken)
-
-neither : (x y : Bool) → not x || not y ≡ false → (x ≡ true) × (y ≡ true)
-neither true true h = (refl, refl)
-neither true false h = false-is (sym h)
-neither false y h = false-is (sym h)
 
 -- ---- a plain entry
 module _ (c : tie.Joined3 Inv-loop μ-loop) where
@@ -96,6 +91,9 @@ module _ (c : tie.Joined3 Inv-loop μ-loop) where
   plain : PlainBody (start .args .limits) (loop .loop .day) (read .entry-at .result)
   plain = bucket .before .before .is-plain-body .ensures (not-false _ (bucket .before .if2 .left))
 
+  there-is : getD (loop .loop .index) (bucketFor (read .entry-at .result)) 0 ≡ getD (loop .loop .index) (bucket .bucket-of .result) 0
+  there-is = ap (λ (n : ℕ). getD (loop .loop .index) n 0) (sym (bucket .bucket-of .ensures))
+
 loop-again : tie.Need-loop-again Inv-loop μ-loop
 unfolding ranTo
 loop-again c =
@@ -115,17 +113,23 @@ loop-again c =
       runs-one (inv .2) turn e (ran-standing _ _ from _ _ _ _ (plain c) stands some (none-indexed _ _ _ (inv .3) clear)),
       indexed-pass _ _ _ (inv .3) e (stands-unwithdrawn _ stands),
     )))
+    (⊎-elim
     (λ w.
-    (let there = getD (loop c .loop .index) (bucket c .bucket-of .result) 0 in
-    let both-are = neither (w .1 .result) (eqb there 0) (w .2 .left) in
-    let gone = sym (w .1 .ensures) ∙ both-are .0 in
-    let free : getD (loop c .loop .index) (bucketFor (read c .entry-at .result)) 0 ≡ 0 = ap (λ (n : ℕ). getD (loop c .loop .index) n 0) (sym at) ∙ eqb-true there 0 (both-are .1) in
-    rw (w .3, w .4, w .5, w .6) (
+    (let gone = sym (w .1 .ensures) ∙ not-false _ (w .2 .left) in
+    rw (w .4, w .5, w .6, w .7) (
       inv .0,
       omega (arith, inv .1),
       runs-one (inv .2) turn e (ran-withdrawn _ _ from _ _ _ _ (plain c) gone),
-      rw at (indexed-free _ _ _ (inv .3) e free),
+      rw at (indexed-free _ _ _ (inv .3) e (there-is c ∙ w .3 .taken)),
     )))
+    (λ w.
+    (let gone = sym (w .1 .ensures) ∙ not-false _ (w .2 .left) in
+    rw (w .4, w .5, w .6, w .7) (
+      inv .0,
+      omega (arith, inv .1),
+      runs-one (inv .2) turn e (ran-withdrawn _ _ from _ _ _ _ (plain c) gone),
+      rw at (indexed-taken _ _ _ (inv .3) e (λ z. w .3 .left (sym (there-is c) ∙ z))),
+    ))))
     (c .if3 .came)
 
 run-to-requires : tie.Need-run-to-requires Inv-loop μ-loop
@@ -155,6 +159,7 @@ run-over-spec =
     is-withdrawn-requires
     add-index
     element-write-index
+    element-write-index-2
     add-k
     loop-less
     loop-again

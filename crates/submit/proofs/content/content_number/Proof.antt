@@ -1,5 +1,4 @@
 -- The first test that holds decides, in the order of the group.
-use mathlib.Core.Path.{_≡_, sym}
 use Rattle.calls.specs.Checks.{contentRules}
 use borrow.Author.Needs.{needs}
 use Rattle.submit.proofs.content.content_number.Statement.{statement}
