@@ -1,6 +1,6 @@
 //! The cases that are measured, in the order of the tables.
 
-use crate::journals::{damage, day, next_read, register, value, Withdrawn, ADVANCE, CAPACITY, DIALS, PLACES};
+use crate::journals::{damage, day, register, Withdrawn, ADVANCE, CAPACITY, DIALS, PLACES};
 use crate::rows::{Made, Row};
 use necktureen::{Number, REGISTER_BYTES};
 
@@ -25,9 +25,10 @@ fn row(made: Made, case: &'static str, entries: usize, expected: Number) -> Row 
 }
 
 /// The journals with withdrawn entries.
-const WITHDRAWN: [(&str, Withdrawn); 4] = [
+const WITHDRAWN: [(&str, Withdrawn); 5] = [
     ("accepted, every second entry withdrawn", Withdrawn::EverySecond),
-    ("accepted, every second entry withdrawn, remainders alike", Withdrawn::EverySecondAlike),
+    ("accepted, every second entry withdrawn, buckets alike", Withdrawn::EverySecondAlike),
+    ("accepted, every second entry withdrawn, one bucket for all", Withdrawn::OneBucket),
     ("accepted, all entries but the first withdrawn", Withdrawn::AllButFirst),
     ("accepted, half the entries dated ahead and withdrawn", Withdrawn::DatedAhead),
 ];
@@ -61,7 +62,7 @@ fn reports() -> Vec<Row> {
 // ---- Submissions ----
 
 fn submit(case: &'static str, entries: usize, advance: u32, expected: Number) -> Row {
-    row(Made::Submit(next_read(entries, advance)), case, entries, expected)
+    row(Made::Submit(Withdrawn::None.next_read(entries, advance)), case, entries, expected)
 }
 
 pub fn submit_accepted(entries: usize) -> Row {
@@ -69,7 +70,7 @@ pub fn submit_accepted(entries: usize) -> Row {
 }
 
 fn submit_over(case: &'static str, entries: usize, withdrawn: Withdrawn) -> Row {
-    let made = Made::Submit(next_read(withdrawn.standing(entries), ADVANCE));
+    let made = Made::Submit(withdrawn.next_read(withdrawn.standing(entries), withdrawn.advance()));
     Row { case, made, register: register(entries, withdrawn), ..submit_accepted(entries) }
 }
 
@@ -94,7 +95,7 @@ fn place_64(entries: usize) -> Row {
 
 fn withdraw(case: &'static str, entries: usize, withdrawn: Withdrawn) -> Row {
     let last = withdrawn.standing(entries) - 1;
-    let made = Made::Withdraw { day: day(last), value: value(last) };
+    let made = Made::Withdraw { day: day(last), value: withdrawn.value(last) };
     Row { register: register(entries, withdrawn), ..row(made, case, entries, Number::Accepted) }
 }
 

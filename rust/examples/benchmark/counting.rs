@@ -3,6 +3,7 @@
 use crate::before;
 use crate::cases::rows;
 use crate::cells::{decimal, grouped, or_dash};
+use crate::last;
 use crate::processes::succeed;
 use crate::rows::Row;
 use std::path::Path;
@@ -46,6 +47,7 @@ fn collected(command: &mut Command, input: &[u8]) -> Result<u64, String> {
 struct Counted {
     row: Row,
     before: Option<u64>,
+    last: Option<u64>,
     now: u64,
 }
 
@@ -55,7 +57,8 @@ impl Counted {
         let run = |passes: u32| of_library(&["row", &index.to_string(), &passes.to_string()]);
         let calls = u64::from((MANY - FEW) * row.calls());
         let now = (run(MANY)? - run(FEW)? + calls / 2) / calls;
-        Ok(Counted { before: before::of_call(&row).map(|before| before.instructions), now, row })
+        let before = before::of_call(&row).map(|before| before.instructions);
+        Ok(Counted { before, last: last::of_call(&row), now, row })
     }
 
     /// The least journal on which the same call is answered the same, if it is less than this one.
@@ -74,11 +77,11 @@ impl Counted {
 
     fn print(&self, all: &[Counted]) {
         let Row { call, case, entries, .. } = self.row;
-        let [before, now] = [self.before, Some(self.now)].map(|figure| or_dash(figure, grouped));
+        let [before, last, now] = [self.before, self.last, Some(self.now)].map(|figure| or_dash(figure, grouped));
         let ratio = or_dash(self.before, |before| decimal(self.now as f64 / before as f64, 2));
         let more_before = or_dash(self.slope(all, |counted| counted.before), |slope| decimal(slope, 1));
         let more_now = or_dash(self.slope(all, |counted| Some(counted.now)), |slope| decimal(slope, 1));
-        println!("| {call} | {case} | {entries} | {before} | {now} | {ratio} | {more_before} | {more_now} |");
+        println!("| {call} | {case} | {entries} | {before} | {last} | {now} | {ratio} | {more_before} | {more_now} |");
     }
 }
 
@@ -87,8 +90,9 @@ pub fn print_calls() -> Result<(), String> {
     rows.iter().for_each(Row::check);
     let counted = rows.into_iter().enumerate().map(|(index, row)| Counted::of(index, row));
     let counted = counted.collect::<Result<Vec<Counted>, String>>()?;
-    println!("| call | case | entries | before | now | now/before | each entry more, before | each entry more, now |");
-    println!("|---|---|---:|---:|---:|---:|---:|---:|");
+    print!("| call | case | entries | before | last | now | now/before ");
+    println!("| each entry more, before | each entry more, now |");
+    println!("|---|---|---:|---:|---:|---:|---:|---:|---:|");
     counted.iter().for_each(|one| one.print(&counted));
     Ok(())
 }

@@ -15,6 +15,8 @@ const DAYS: u16 = 180;
 const LETTERS: [u8; 8] = *b"CURTSXYE";
 /// How many reads were dated ahead, where some were.
 const AHEAD: usize = 24;
+/// The library keeps withdrawn reads in so many buckets. A read's bucket is the remainder of its day and value together.
+const BUCKETS: u32 = 256;
 const METER_BYTES: usize = 6;
 const ENTRY_BYTES: usize = 10;
 
@@ -22,10 +24,13 @@ const ENTRY_BYTES: usize = 10;
 #[derive(Clone, Copy)]
 pub enum Withdrawn {
     None,
-    /// A misread before each read but the first. None has the remainder by 64 of the read that it is a misread of.
+    /// A misread before each read but the first. No two misreads share a bucket.
     EverySecond,
-    /// The same, but each misread has that remainder, so that no mark tells the two apart.
+    /// The same, but each misread is in the bucket of the read that it is a misread of, and has to be looked at for it.
     EverySecondAlike,
+    /// The same, but all reads are in one bucket too. From the second misread on it is crowded: each entry is then taken by
+    /// all the rules, each read that stands is in doubt, and in the end each misread is looked up.
+    OneBucket,
     /// Misreads after the first read.
     AllButFirst,
     /// 24 reads after the first were sent with a day that is half a round ahead, and all of them withdrawn before they
@@ -38,9 +43,38 @@ impl Withdrawn {
     pub fn standing(self, entries: usize) -> usize {
         match self {
             Withdrawn::None => entries,
-            Withdrawn::EverySecond | Withdrawn::EverySecondAlike => entries.div_ceil(2),
+            Withdrawn::EverySecond | Withdrawn::EverySecondAlike | Withdrawn::OneBucket => entries.div_ceil(2),
             Withdrawn::AllButFirst => entries.min(1),
             Withdrawn::DatedAhead => entries.min(1) + entries.saturating_sub(1 + AHEAD),
+        }
+    }
+
+    /// How far the dials go from one read to the next. Reads stay in one bucket if the days between make it a whole round.
+    pub fn advance(self) -> u32 {
+        match self {
+            Withdrawn::OneBucket => BUCKETS - u32::from(DAYS),
+            _ => ADVANCE,
+        }
+    }
+
+    /// What the dials show at the read that so many others stand before.
+    pub fn value(self, standing: usize) -> u32 {
+        self.advance() * (standing as u32 + 1)
+    }
+
+    /// The read that follows so many standing ones, with this advance.
+    pub fn next_read(self, standing: usize, advance: u32) -> Submission {
+        let (day, last) = (day(standing), self.value(standing) - self.advance());
+        Submission { submitted: day, day, value: last + advance, letter: letter(standing), indicator: 0, reread: 0 }
+    }
+
+    /// Day and value of the withdrawn read at a position, with so many standing before it.
+    fn read_at(self, position: usize, standing: usize) -> (u16, u32) {
+        let read = self.value(standing);
+        match self {
+            Withdrawn::DatedAhead => (day(position) + DAYS / 2, self.value(position)),
+            Withdrawn::EverySecondAlike | Withdrawn::OneBucket => (day(standing), read + BUCKETS),
+            _ => (day(standing), read + 1 + position as u32),
         }
     }
 }
@@ -50,22 +84,11 @@ pub fn day(standing: usize) -> u16 {
     FIRST_DAY + DAYS * standing as u16
 }
 
-/// What the dials show on that day.
-pub fn value(standing: usize) -> u32 {
-    ADVANCE * (standing as u32 + 1)
-}
-
 fn letter(standing: usize) -> u8 {
     match standing.checked_sub(1) {
         None => b'I',
         Some(later) => LETTERS[later % LETTERS.len()],
     }
-}
-
-/// The read that follows so many standing ones, with this advance.
-pub fn next_read(standing: usize, advance: u32) -> Submission {
-    let (day, last) = (day(standing), value(standing) - ADVANCE);
-    Submission { submitted: day, day, value: last + advance, letter: letter(standing), indicator: 0, reread: 0 }
 }
 
 /// A register with the same journal at every place. A withdrawn entry is a misread of the read that stands next, of its
@@ -77,11 +100,10 @@ pub fn register(entries: usize, withdrawn: Withdrawn) -> Vec<u8> {
     for (position, entry) in area[METER_BYTES..].chunks_exact_mut(ENTRY_BYTES).take(entries).enumerate() {
         let standing = withdrawn.standing(position);
         let stands = withdrawn.standing(position + 1) > standing;
-        let (kind, day, value) = match withdrawn {
-            _ if stands => (2, day(standing), value(standing)),
-            Withdrawn::DatedAhead => (3, day(position) + DAYS / 2, value(position)),
-            Withdrawn::EverySecondAlike => (3, day(standing), value(standing) + 64),
-            _ => (3, day(standing), value(standing) + 1 + position as u32),
+        let (kind, (day, value)) = if stands {
+            (2, (day(standing), withdrawn.value(standing)))
+        } else {
+            (3, withdrawn.read_at(position, standing))
         };
         write_entry(entry, kind, day, value, letter(standing));
     }

@@ -1,11 +1,12 @@
 //! What a call costs: the library beside the peer, a second writing of the same rules by hand in Rust, and beside the
-//! library as it was before.
+//! library as it was before, in its first version and last.
 
 mod before;
 mod cases;
 mod cells;
 mod counting;
 mod journals;
+mod last;
 #[path = "../../tests/peer/mod.rs"]
 mod peer;
 mod processes;

@@ -1,6 +1,6 @@
 //! A day sheet of the greatest length.
 
-use crate::journals::{next_read, ADVANCE, CAPACITY, DIALS, PLACES};
+use crate::journals::{Withdrawn, ADVANCE, CAPACITY, DIALS, PLACES};
 use necktureen::{Call, SheetWriter, REGISTER_BYTES, SHEET_BYTES};
 use std::hint::black_box;
 
@@ -22,7 +22,7 @@ pub fn long_sheet() -> Vec<u8> {
 
 /// A read at each place, and its withdrawal where it is the tenth.
 fn reads(position: usize) -> Vec<Call> {
-    let read = next_read(position, ADVANCE);
+    let read = Withdrawn::None.next_read(position, ADVANCE);
     let mut calls: Vec<Call> = (0..PLACES).map(|place| Call::Submit { place, read }).collect();
     if position % 10 == 9 {
         calls.extend((0..PLACES).map(|place| Call::Withdraw { place, day: read.day, value: read.value }));
