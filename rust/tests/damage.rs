@@ -1,9 +1,11 @@
-//! Damaged areas: one for each clause of a sound journal. Every call that reads one answers 4 and changes no byte.
+//! Damaged areas: one for each clause of a sound journal. Every call that reads one answers 4 and changes no byte. Then
+//! standing reads against withdrawn ones, which the library keeps in buckets.
 
 mod common;
+mod peer;
 
 use common::*;
-use necktureen::{journal, report, Call, Number};
+use necktureen::{journal, letter, report, submit, Call, Number};
 use std::ops::Range;
 
 fn first() -> [u8; 10] {
@@ -116,44 +118,180 @@ fn sound_journals_of_unusual_shape() {
     }
 }
 
+// ---- Standing reads against withdrawn ones ----
+//
+// The library keeps withdrawn reads in 256 buckets. A read's bucket is the remainder of its day and value together.
+
+/// What library and peer answer a report on a journal of these entries.
+fn number(entries: &[[u8; 10]]) -> Number {
+    let register = with_area(9, &area(entries));
+    let answer = report(&register, 9);
+    assert_eq!(answer, peer::report(&register, 9), "{entries:?}");
+    answer.number
+}
+
 /// The bytes of an entry's day, of its value, and of both.
 const DAY: Range<usize> = 1..3;
 const VALUE: Range<usize> = 3..7;
 const BOTH: Range<usize> = 1..7;
 
-/// 25 standing reads and 24 withdrawn ones between their days. All values have the same remainder by 64, so that no mark
-/// tells them apart.
-fn standing_and_withdrawn() -> (Vec<[u8; 10]>, Vec<[u8; 10]>) {
-    let standing = (1..25).map(|k| entry(STANDING, 100 + 10 * k, 10 + 64 * u32::from(k), b'C', 0, 0));
-    let withdrawn = (1..25).map(|k| entry(WITHDRAWN, 105 + 10 * k, 10 + 64 * u32::from(k), b'C', 0, 0));
-    ([first()].into_iter().chain(standing).collect(), withdrawn.collect())
+/// 25 standing reads and 24 withdrawn ones between their days, all of them `step` apart in value.
+struct Reads {
+    standing: Vec<[u8; 10]>,
+    withdrawn: Vec<[u8; 10]>,
 }
 
-/// The withdrawn reads after the first, after all that stand, and by turns.
-fn orders(standing: &[[u8; 10]], withdrawn: &[[u8; 10]]) -> [Vec<[u8; 10]>; 3] {
-    let turns = standing[1..].iter().zip(withdrawn).flat_map(|(stands, gone)| [*gone, *stands]);
-    [
-        [&standing[..1], withdrawn, &standing[1..]].concat(),
-        [standing, withdrawn].concat(),
-        [standing[0]].into_iter().chain(turns).collect(),
-    ]
-}
+impl Reads {
+    fn apart(step: u32) -> Reads {
+        let standing = (1..25).map(|k| entry(STANDING, 100 + 20 * k, 10 + step * u32::from(k), b'C', 0, 0));
+        let withdrawn = (1..25).map(|k| entry(WITHDRAWN, 105 + 20 * k, 5 + step * u32::from(k), b'C', 0, 0));
+        Reads { standing: [first()].into_iter().chain(standing).collect(), withdrawn: withdrawn.collect() }
+    }
 
-#[test]
-fn each_withdrawn_read_is_compared_with_each_standing_one() {
-    let (standing, withdrawn) = standing_and_withdrawn();
-    let number = |entries: &[[u8; 10]]| report(&with_area(9, &area(entries)), 9).number;
-    for (k, stands) in (0..withdrawn.len()).flat_map(|k| standing.iter().map(move |stands| (k, stands))) {
+    /// The withdrawn reads after the first, after all that stand, and by turns.
+    fn orders(&self, withdrawn: &[[u8; 10]]) -> [Vec<[u8; 10]>; 3] {
+        let standing = &self.standing;
+        let turns = standing[1..].iter().zip(withdrawn).flat_map(|(stands, gone)| [*gone, *stands]);
+        [
+            [&standing[..1], withdrawn, &standing[1..]].concat(),
+            [standing, withdrawn].concat(),
+            [standing[0]].into_iter().chain(turns).collect(),
+        ]
+    }
+
+    /// Gives withdrawn read k the day of a standing one, its value, or both. Only then is the journal damaged.
+    fn compare(&self, k: usize, stands: &[u8; 10]) {
         for (same, expected) in [(DAY, Number::Accepted), (VALUE, Number::Accepted), (BOTH, Number::Damaged)] {
-            let mut changed = withdrawn.clone();
+            let mut changed = self.withdrawn.clone();
             changed[k][same.clone()].copy_from_slice(&stands[same.clone()]);
             if same == DAY {
-                // 4,096 more is the value of no standing read, and has the same remainder by 64.
+                // 4,096 more is the value of no standing read.
                 changed[k][4] += 16;
             }
-            for entries in orders(&standing, &changed) {
+            for entries in self.orders(&changed) {
                 assert_eq!(number(&entries), expected, "withdrawn {k} with bytes {same:?} of {stands:?}");
             }
         }
+    }
+}
+
+/// 64 apart each withdrawn read shares a bucket with one standing read. 236 apart, which makes 256 with the days between,
+/// all share one.
+#[test]
+fn each_withdrawn_read_is_compared_with_each_standing_one() {
+    for reads in [64, 236].map(Reads::apart) {
+        for k in 0..reads.withdrawn.len() {
+            reads.standing.iter().for_each(|stands| reads.compare(k, stands));
+        }
+    }
+}
+
+/// Day and value of a read of the crowd: each is a day later and one lower than the one before it, so that all are in one
+/// bucket. Any of them may stand after the first read and after one of day 250.
+fn in_crowd(k: u16) -> (u16, u32) {
+    (300 + k, 1000 - u32::from(k))
+}
+
+fn crowd_read(kind: u8, k: u16, letter: u8) -> [u8; 10] {
+    let (day, value) = in_crowd(k);
+    entry(kind, day, value, letter, 0, 0)
+}
+
+fn crowd(size: u16) -> Vec<[u8; 10]> {
+    (0..size).map(|k| crowd_read(WITHDRAWN, k, b'C')).collect()
+}
+
+/// The first read before a crowd and after it. Until a read stands, no entry takes the short way.
+fn first_and_crowd(size: u16) -> [Vec<[u8; 10]>; 2] {
+    [[vec![first()], crowd(size)].concat(), [crowd(size), vec![first()]].concat()]
+}
+
+/// After a crowd of this size and whatever else, each of its reads is damage if it stands; one that is only in the same
+/// bucket is not.
+fn crowd_clashes(before: &[[u8; 10]], size: u16, letter: u8) {
+    for k in 0..=size {
+        let expected = if k < size { Number::Damaged } else { Number::Accepted };
+        let entries = [before, &[crowd_read(STANDING, k, letter)]].concat();
+        assert_eq!(number(&entries), expected, "read {k} after a crowd of {size}");
+    }
+}
+
+#[test]
+fn a_standing_read_is_compared_with_each_withdrawn_one_in_its_bucket() {
+    for size in [0, 1, 2, 3, 48] {
+        crowd_clashes(&crowd(size), size, b'O');
+        first_and_crowd(size).iter().for_each(|entries| crowd_clashes(entries, size, b'C'));
+    }
+}
+
+/// Entries that few of the rules concern take a short way, and these do not.
+#[test]
+fn no_entry_between_hides_a_withdrawn_read() {
+    for between in [
+        entry(STANDING, 250, 20, b'F', 0, 0),
+        entry(STANDING, 250, 20, b'C', 2, 1),
+        entry(WITHDRAWN, 250, 20, b'I', 0, 0),
+        entry(WITHDRAWN, 250, 20, b'C', 2, 1),
+        entry(WITHDRAWN, 50, 5, b'C', 0, 0),
+    ] {
+        for (size, at) in (1..=3).flat_map(|size| (0..=size).map(move |at| (size, at))) {
+            let mut entries = [vec![first()], crowd(size)].concat();
+            entries.insert(1 + usize::from(at), between);
+            crowd_clashes(&entries, size, b'C');
+        }
+    }
+}
+
+#[test]
+fn a_withdrawn_read_is_compared_with_each_that_stood_before_it() {
+    let stood: Vec<[u8; 10]> = (0..8).map(|k| crowd_read(STANDING, k, b'C')).collect();
+    let others: Vec<[u8; 10]> = (20..23).map(|k| crowd_read(WITHDRAWN, k, b'C')).collect();
+    for withdrawn in [&[][..], &others] {
+        for k in 0..=8 {
+            let (day, value) = in_crowd(k);
+            let expected = if k < 8 { Number::Damaged } else { Number::Accepted };
+            let after = |gone| [&[first()], &stood[..], withdrawn, &[gone]].concat();
+            assert_eq!(number(&after(entry(WITHDRAWN, day, value, b'C', 0, 0))), expected, "read {k}");
+            assert_eq!(number(&after(entry(WITHDRAWN, day, value + 256, b'C', 0, 0))), Number::Accepted, "read {k}");
+        }
+    }
+}
+
+/// What library and peer answer if read k of the crowd is sent to a journal of these entries.
+fn sent(entries: &[[u8; 10]], k: u16) -> Number {
+    let (day, value) = in_crowd(k);
+    let read = read(day, letter::CYCLIC, value);
+    let [mut register, mut of_peer] = [0, 1].map(|_| with_area(9, &area(entries)));
+    let answer = submit(&mut register, 9, read);
+    assert_eq!(answer, peer::submit(&mut of_peer, 9, read), "read {k} to {entries:?}");
+    assert_eq!(register, of_peer, "read {k} to {entries:?}");
+    answer.number
+}
+
+/// Each read of a crowd of this size is withdrawn in these entries, and one that is only in the same bucket is not.
+fn crowd_stays_withdrawn(entries: &[[u8; 10]], size: u16) {
+    for k in 0..=size {
+        assert_eq!(sent(entries, k) == Number::Withdrawn, k < size, "read {k} after a crowd of {size}");
+    }
+}
+
+#[test]
+fn each_read_of_a_bucket_stays_withdrawn_and_no_other() {
+    let held = entry(HELD, 250, 20, b'C', 0, 0);
+    let last = entry(STANDING, 250, 20, b'F', 0, 0);
+    for size in [0, 1, 2, 3, 48] {
+        for entries in first_and_crowd(size) {
+            crowd_stays_withdrawn(&entries, size);
+            crowd_stays_withdrawn(&[&entries[..], &[held]].concat(), size);
+            crowd_stays_withdrawn(&[&entries[..], &[last]].concat(), size);
+        }
+    }
+}
+
+#[test]
+fn a_standing_read_in_a_bucket_of_withdrawn_ones_is_a_repeat() {
+    for size in [1, 2, 3, 48] {
+        let entries = [vec![first()], crowd(size), vec![crowd_read(STANDING, size, b'C')]].concat();
+        assert_eq!(sent(&entries, size), Number::Repeat, "after a crowd of {size}");
     }
 }

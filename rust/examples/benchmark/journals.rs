@@ -49,7 +49,7 @@ impl Withdrawn {
         }
     }
 
-    /// How far the dials go from one read to the next. Reads stay in one bucket if the days between make it a whole round.
+    /// How far the dials go from one read to the next. Reads stay in one bucket if advance and days together make 256.
     pub fn advance(self) -> u32 {
         match self {
             Withdrawn::OneBucket => BUCKETS - u32::from(DAYS),
