@@ -184,11 +184,20 @@ fn change_a_field(random: &mut Random, meter: &Meter, read: &mut Submission) {
     }
 }
 
+/// The reads of one meter in eight all share a bucket.
 fn next_read(random: &mut Random, meter: &Meter) -> Read {
-    match meter.standing.last() {
+    let read = match meter.standing.last() {
         None => opening_read(random, meter),
         Some(&(last, _)) => following_read(random, meter, last),
-    }
+    };
+    let value = if meter.capacity % 8 == 0 { in_first_bucket(read.day, read.value) } else { read.value };
+    Read { value, ..read }
+}
+
+/// The least value from this one on with which a read of this day is in the first of the 256 buckets that the library keeps
+/// withdrawn reads in: day and value together are a multiple of 256.
+fn in_first_bucket(day: u16, value: u32) -> u32 {
+    value + (256 - (u32::from(day) + value) % 256) % 256
 }
 
 /// A first read, often near all nines. Days start low, so that many reads fit after it.

@@ -1,6 +1,6 @@
 //! Random registers: areas of every sort, and lengths that do not fit.
 
-use super::{plate, Random, Read};
+use super::{in_first_bucket, plate, Random, Read};
 use necktureen::{AREA_BYTES, REGISTER_BYTES};
 
 /// A register of 64 areas of every sort: sound, damaged, random, all zero.
@@ -71,6 +71,7 @@ fn sound_area(random: &mut Random, area: &mut [u8]) {
     let withdrawn_in = random.pick(&[2, 4, 100]);
     let held = count > 1 && random.once_in(4);
     let steady = random.once_in(2);
+    let one_bucket = random.once_in(4);
     let pace = random.between(0, turn / 11);
     let mut last: Option<Read> = None;
     let mut final_stands = false;
@@ -84,6 +85,10 @@ fn sound_area(random: &mut Random, area: &mut [u8]) {
         let flag = u8::from(value >= turn && !random.once_in(4));
         let value = if random.once_in(20) { random.between(0, turn - 1) } else { value % turn };
         let mut read = Read { day: day as u16, value: value as u32, ..any_read(random, turn) };
+        if one_bucket {
+            let near = value.min(turn - 1280) + 256 * random.between(0, 3);
+            read.value = in_first_bucket(read.day, near as u32);
+        }
         if held && position + 1 == count && last.is_some() {
             read.letter = if final_stands { random.pick(b"CURTSXE") } else { random.pick(b"CURTSFXE") };
             write_read(entry, 4, read, flag);
