@@ -183,7 +183,7 @@ pub(crate) fn plain_over(body: &[u8], limits: Limits, from: Run) -> Run
 }
 
 // Past the plain entries that follow. A withdrawn one is put into the index; where the bucket of a standing one leaves it in doubt, the run
-// ends. What `index::put` does is written out here: called, it takes twice the instructions.
+// ends. What `index::put` does is written out here: a call of it takes three instructions more.
 pub(crate) fn run_over(
     body: &[u8],
     limits: Limits,
