@@ -1,0 +1,5 @@
+pub mod Year
+pub mod Month
+pub mod Date
+pub mod Claims
+pub mod Inner

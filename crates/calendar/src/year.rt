@@ -1,0 +1,58 @@
+// Years: which are leap years, and which year a day falls in.
+ghost use mathlib.Core.Path.{_≡_};
+ghost use Prim.Native.Nat.{_≤_};
+ghost use Rattle.calendar.specs.Year.{isLeap, yearLength};
+ghost use Rattle.calendar.specs.Date.{dateOf};
+ghost use Rattle.calendar.specs.Inner.Placed.{YearAt, evenDays};
+use crate::starts::FIRST_YEAR;
+
+// The days of four years.
+const FOUR_YEARS: u32 = 1461;
+
+// The day on which 2101 begins.
+const START_OF_2101: u16 = 36891;
+
+// A leap year divides by 4, and not by 100 unless by 400.
+pub fn is_leap(year: u16) -> bool
+    ensures { λ r. ⌜ r ≡ isLeap year ⌝ }
+{
+    (year % 4 == 0) & (!(year % 100 == 0) | (year % 400 == 0))
+}
+
+pub fn year_length(year: u16) -> u16
+    ensures { λ r. ⌜ r ≡ yearLength year ⌝ }
+{
+    if is_leap(year) {
+        return 366;
+    }
+    365
+}
+
+// The days before a day, as if 2100 had a leap day: so each four years have the same days, the first of them one more.
+fn even_days(day: u16) -> u16
+    requires { ⌜ 1 ≤ day ⌝ }
+    ensures { λ r. ⌜ r ≡ evenDays day ⌝ }
+{
+    if day < START_OF_2101 {
+        return day - 1;
+    }
+    day
+}
+
+// The year that a day falls in, counted from 2000.
+pub(crate) fn year_at(day: u16) -> u16
+    requires { ⌜ 1 ≤ day ⌝ }
+    ensures { λ r. ⌜ YearAt day r ⌝ }
+{
+    (4 * (even_days(day) as u32) / FOUR_YEARS) as u16
+}
+
+// The year of a day's date, and 0 for day 0.
+pub fn year_of(day: u16) -> u16
+    ensures { λ r. ⌜ r ≡ dateOf day .year ⌝ }
+{
+    if day == 0 {
+        return 0;
+    }
+    FIRST_YEAR + year_at(day)
+}
