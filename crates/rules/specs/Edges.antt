@@ -31,8 +31,10 @@ unfoldable pub plain : List ℕ → List Stood
 plain [] = []
 plain (value ∷ values) = stood value 0 ∷ plain values
 
--- a cyclic read with the indicator not set, submitted after the standing ones, the newest first, and what the rules say of it
+-- a cyclic read with the indicator not set, submitted after the standing ones, the newest first, of which the oldest is of the day first; and what
+-- the rules say of it
 pub record Edge : Type 0 where
+  pub first : ℕ
   pub spacing : ℕ
   pub capacity : ℕ
   pub standing : List Stood
@@ -42,10 +44,33 @@ pub record Edge : Type 0 where
 
 abbrev pub edgeAfter : List Stood → ℕ → ℕ → ℕ → Detected → ℕ → Edge
 edgeAfter standing spacing capacity submitted says number =
-    record { spacing = spacing; capacity = capacity; standing = standing; submitted = submitted; says = says; number = number }
+    record { first = 1; spacing = spacing; capacity = capacity; standing = standing; submitted = submitted; says = says; number = number }
 
 abbrev pub edge : ℕ → ℕ → List ℕ → ℕ → Detected → ℕ → Edge
 edge spacing capacity standing submitted says number = edgeAfter (plain standing) spacing capacity submitted says number
+
+-- a capacity, and an advance in the ten days from a day on
+abbrev pub inTenDays : ℕ → ℕ → ℕ → ℕ → Edge
+inTenDays first capacity advance number =
+    record {
+      first = first;
+      spacing = 10;
+      capacity = capacity;
+      standing = plain (1000 ∷ []);
+      submitted = 1000 + advance;
+      says = NotRollover;
+      number = number;
+    }
+
+-- the days on which 2000, a leap year, and 2001 and 2100, which are none, begin
+abbrev pub from2000 : ℕ
+from2000 = 1
+
+abbrev pub from2001 : ℕ
+from2001 = 367
+
+abbrev pub from2100 : ℕ
+from2100 = 36526
 
 -- the spacing of all but the last pair, and a capacity that none of them reaches
 abbrev pub halfYear : ℕ
@@ -66,8 +91,8 @@ edges =
     ∷ edge halfYear ample (1200 ∷ 1000 ∷ []) 1239 NotRollover low
     ∷ edge halfYear ample (1200 ∷ 1000 ∷ []) 1600 NotRollover accepted
     ∷ edge halfYear ample (1200 ∷ 1000 ∷ []) 1601 NotRollover high
-    ∷ edge 10 365 (1000 ∷ []) 1009 NotRollover accepted
-    ∷ edge 10 365 (1000 ∷ []) 1010 NotRollover overCapacity
+    ∷ inTenDays from2001 365 9 accepted
+    ∷ inTenDays from2001 365 10 overCapacity
     ∷ []
 
 -- ---- more edges of the same rules, where no pair of the paper has one
@@ -93,30 +118,37 @@ moreEdges =
     ∷ edge halfYear ample (1001 ∷ 1000 ∷ []) 1004 NotRollover high
     ∷ edge halfYear ample (1000 ∷ 1000 ∷ []) 1001 NotRollover accepted
     ∷ edge halfYear ample (990 ∷ 1000 ∷ []) 991 NotRollover accepted
-    -- "a × 365 < capacity × d": 10 in 10 days is below 366 a year
-    ∷ edge 10 366 (1000 ∷ []) 1010 NotRollover accepted
+    -- "a × 365 < capacity × d", and 366 "where the read's day falls in a calendar leap year": 10 in ten days is below 366 a year in 2001 and in
+    -- 2100, and is not in 2000
+    ∷ inTenDays from2000 366 9 accepted
+    ∷ inTenDays from2000 366 10 overCapacity
+    ∷ inTenDays from2001 366 10 accepted
+    ∷ inTenDays from2100 366 10 accepted
+    -- it is the day of the read that counts: 31 December 2000 and 1 January 2001
+    ∷ inTenDays 356 366 10 overCapacity
+    ∷ inTenDays 357 366 10 accepted
     ∷ []
 
--- the standing reads of a row, the oldest on day 1
-unfoldable pub standingReads : ℕ → List Stood → List Entry
-standingReads spacing [] = []
-standingReads spacing (r ∷ rs) =
+-- the standing reads of a row
+unfoldable pub standingReads : ℕ → ℕ → List Stood → List Entry
+standingReads first spacing [] = []
+standingReads first spacing (r ∷ rs) =
     record {
       kind = kindStanding;
-      day = 1 + spacing * length rs;
+      day = first + spacing * length rs;
       value = r .value;
       letter = letterC;
       indicator = indicatorNotSet;
       flag = r .flag;
     }
-    ∷ standingReads spacing rs
+    ∷ standingReads first spacing rs
 
--- the read that a row submits
+-- the read that a row submits; it is sent a year late, which none of the rules minds
 unfoldable pub submittedRead : Edge → Submission
 submittedRead e =
     record {
-      submitted = 1 + e .spacing * length (e .standing);
-      day = 1 + e .spacing * length (e .standing);
+      submitted = e .first + e .spacing * length (e .standing) + 366;
+      day = e .first + e .spacing * length (e .standing);
       value = e .submitted;
       letter = letterC;
       indicator = indicatorNotSet;
@@ -127,7 +159,7 @@ abbrev pub dials : ℕ
 dials = 4
 
 unfoldable pub detectedAt : Edge → Detected
-detectedAt e = detected dials (submittedRead e) (recentOf (standingReads (e .spacing) (e .standing)))
+detectedAt e = detected dials (submittedRead e) (recentOf (standingReads (e .first) (e .spacing) (e .standing)))
 
 -- the number that detection, indicator and volume give, in this order
 unfoldable pub numberAt : Edge → ℕ
@@ -137,7 +169,7 @@ numberAt e = cond (eqb (indicatedNumber taken) accepted) (volumeNumber dials (e 
     taken = indicated (detectedAt e) indicatorNotSet
 
     recent : Recent
-    recent = recentOf (standingReads (e .spacing) (e .standing))
+    recent = recentOf (standingReads (e .first) (e .spacing) (e .standing))
 
 abbrev pub isSameFinding : Detected → Detected → Bool
 isSameFinding NotRollover NotRollover = true

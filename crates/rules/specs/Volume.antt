@@ -5,6 +5,8 @@ use Prim.Native.Nat.{ℕ}
 use lib.Dec.{eqb}
 use lib.IntN.{ℤ, pos, _-ℤ_, _*ℤ_}
 use lib.Signed.{ltZ}
+use Rattle.calendar.specs.Year.{yearLength}
+use Rattle.calendar.specs.Date.{dateOf}
 use Rattle.arithmetic.specs.Advance.{advanceOf}
 use Rattle.terms.specs.declared.entry.Entry.{Entry}
 use Rattle.terms.specs.declared.entry.Slot.{Slot}
@@ -58,11 +60,12 @@ comparedNumber Low = low
 comparedNumber High = high
 comparedNumber Neither = accepted
 
--- the days of the year of a read's day: 365 whatever the year
+-- 02, 1: "366 where the read's day falls in a calendar leap year", and else 365: the length of the year of the day's date
 unfoldable pub daysInYear : ℕ → ℕ
-daysInYear day = 365
+daysInYear day = yearLength (dateOf day .year)
 
--- "Capacity: passes if a × 365 < capacity × d, else 21." Where no read stands there is no d, and nothing to pass.
+-- "Capacity: passes if a × 365 < capacity × d, else 21", with the days of the read's year in the place of 365. Where no read stands there is no d,
+-- and nothing to pass.
 unfoldable pub isWithinCapacity : ℕ → ℤ → Submission → Slot → Bool
 isWithinCapacity capacity a s (Read r0) =
     ltZ (a *ℤ pos (daysInYear (s .day))) (pos capacity *ℤ (pos (s .day) -ℤ pos (r0 .day)))

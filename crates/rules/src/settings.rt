@@ -19,6 +19,4 @@ impl Settings {
     pub const LOW_PERCENT: u8 = 20;
 
     pub const HIGH_PERCENT: u8 = 200;
-
-    pub const DAYS_IN_YEAR: u16 = 365;
 }

@@ -5,6 +5,8 @@ ghost use Rattle.rules.specs.Volume.{advanceOver, hasVolumeCheck, hasThr
 use crate::rate::scaled;
 use crate::settings::Settings;
 use arithmetic::advance::advance;
+use calendar::year::year_length;
+use calendar::year::year_of;
 use terms::entry::Entry;
 use terms::entry::Recent;
 use terms::entry::Slot;
@@ -86,11 +88,11 @@ fn compared_number(c: Compared) -> u8
     }
 }
 
-// The days of the year of a read's day: document 01 takes the same number for every year.
+// The days of the year that a read's day falls in.
 fn days_in_year(day: u16) -> u16
     ensures { λ r. ⌜ r ≡ daysInYear day ⌝ }
 {
-    Settings::DAYS_IN_YEAR
+    year_length(year_of(day))
 }
 
 // The advance over a year at this rate is less than the capacity; strict, as 001's formula is.

@@ -1,5 +1,8 @@
--- Every row of the tables computes to true.
+-- Every row of the tables computes to true, the year of a day by counting to it.
 use mathlib.Core.Path.{refl}
+use Rattle.calendar.specs.Year.{isLeap, yearLength}
+use Rattle.calendar.specs.Month.{hasThirty, lengthIn, monthLength}
+use Rattle.calendar.specs.Date.{next, after, dateOf}
 use Rattle.arithmetic.specs.Powers.{tenTo}
 use Rattle.arithmetic.specs.Advance.{advanceOf}
 use Rattle.terms.specs.Entry.{slotAt, recentOf}
@@ -12,7 +15,7 @@ use Rattle.rules.proofs.edges.edges_hold.Statement.{statement}
 use Rattle.rules.proofs.edges.edges_hold.Tie as tie
 
 returns : tie.Need-returns
-unfolding tenTo advanceOf slotAt recentOf isUnchecked isPlain scaledOf isSmallStep isNotRollover isNearTurn isLikeRate isSmallPart isSmallTurn isSmallAdvance isRollover detected indicated indicatedNumber indicatedFlag advanceOver hasVolumeCheck hasThreshold comparedWith compared comparedNumber daysInYear isWithinCapacity isLowVolume isHighVolume isOverCapacity volumeNumber plain edges moreEdges standingReads submittedRead detectedAt numberAt holdsAt holdAt EdgesHold
+unfolding isLeap yearLength hasThirty lengthIn monthLength next after dateOf tenTo advanceOf slotAt recentOf isUnchecked isPlain scaledOf isSmallStep isNotRollover isNearTurn isLikeRate isSmallPart isSmallTurn isSmallAdvance isRollover detected indicated indicatedNumber indicatedFlag advanceOver hasVolumeCheck hasThreshold comparedWith compared comparedNumber daysInYear isWithinCapacity isLowVolume isHighVolume isOverCapacity volumeNumber plain edges moreEdges standingReads submittedRead detectedAt numberAt holdsAt holdAt EdgesHold
 returns c = (refl, refl)
 
 pub edges-hold-spec : {M : Type 1} → statement M
