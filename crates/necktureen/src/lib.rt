@@ -1,9 +1,11 @@
 // The calls for a program in C or Rust: numbers and byte slices alone, no promise asked of the caller. Each answers its number and puts the
-// other fields where the caller says.
+// other fields where the caller says. The calendar stands beside them.
 ghost use mathlib.Core.Path.{_≡_};
+ghost use Rattle.calendar.specs.Date.{date, dateOf, dayOf};
 ghost use Rattle.terms.specs.Answer.{answer, reported};
 ghost use Rattle.calls.specs.Calls.{done, step, journalLength};
 ghost use Rattle.sheet.specs.Play.{Played};
+use calendar::date::Date;
 use calls::call::Call;
 use calls::call::Reply;
 use terms::submission::Submission;
@@ -106,4 +108,32 @@ pub extern "C" fn necktureen_play(sheet: &[u8], register: &mut [u8], text: &mut 
     ensures { λ r. ⌜ Played (now (sheet .entry)) (now (register .entry)) (now (text .entry)) (now (register .exit)) (now (text .exit)) r ⌝ }
 {
     sheet::play::play(sheet, register, text)
+}
+
+// The date of a day: zeros for day 0.
+#[no_mangle]
+pub extern "C" fn necktureen_date_of(
+    day: u16,
+    year: &mut u16,
+    month: &mut u8,
+    day_of_month: &mut u8,
+)
+    ensures { λ _. ⌜ date (now (year .exit)) (now (month .exit)) (now («day_of_month» .exit)) ≡ dateOf day ⌝ }
+{
+    let found = calendar::conversion::date_of(day);
+    *year = found.year;
+    *month = found.month;
+    *day_of_month = found.day;
+}
+
+// The day of a date: 0 for one that is not in the calendar or has no day number.
+#[no_mangle]
+pub extern "C" fn necktureen_day_of(year: u16, month: u8, day_of_month: u8) -> u16
+    ensures { λ r. ⌜ r ≡ dayOf (date year month «day_of_month») ⌝ }
+{
+    calendar::conversion::day_of(Date {
+        year,
+        month,
+        day: day_of_month,
+    })
 }
