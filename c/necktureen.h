@@ -2,9 +2,10 @@
  * `rt staticlib necktureen` writes to target/staticlib: code for x86-64 that needs no other library.
  *
  * A register is NECKTUREEN_REGISTER_BYTES bytes that the caller lends, all zero at first; place p's meter has the
- * NECKTUREEN_AREA_BYTES bytes from NECKTUREEN_AREA_BYTES * p on. Every function takes the register as a pointer and its
- * length, whatever that is and whatever the bytes are, and all but the last two answer one of the numbers below. A
- * number other than 0 changes no byte of the register and puts zeros in the other fields; 19 and 20 store the held read.
+ * NECKTUREEN_AREA_BYTES bytes from NECKTUREEN_AREA_BYTES * p on. Every function but the two of the calendar, which come
+ * last, takes the register as a pointer and its length, whatever that is and whatever the bytes are. The first four
+ * answer one of the numbers below. A number other than 0 changes no byte of the register and puts zeros in the other
+ * fields; 19 and 20 store the held read.
  *
  * Pointers: a pointer and its length belong together. What is written (register, text, the other fields) is valid, apart
  * from each other and from all else that is lent. No pointer is kept, nothing is allocated, and nothing is remembered
@@ -25,9 +26,9 @@
 extern "C" {
 #endif
 
-#define NECKTUREEN_VERSION "0.2.0"
+#define NECKTUREEN_VERSION "0.3.0"
 #define NECKTUREEN_VERSION_MAJOR 0
-#define NECKTUREEN_VERSION_MINOR 2
+#define NECKTUREEN_VERSION_MINOR 3
 #define NECKTUREEN_VERSION_PATCH 0
 
 #define NECKTUREEN_REGISTER_BYTES 32768
@@ -154,6 +155,13 @@ size_t necktureen_journal(const uint8_t *reg, size_t length, uint16_t place);
  * the text. */
 size_t necktureen_play(const uint8_t *sheet, size_t sheet_length, uint8_t *reg, size_t length, uint8_t *text,
                        size_t room);
+
+/* Puts the calendar date of a day: 2000, 1, 1 for day 1, and 2179, 6, 5 for the last, 65,535. Day 0 has none and gets
+ * three zeros. */
+void necktureen_date_of(uint16_t day, uint16_t *year, uint8_t *month, uint8_t *day_of_month);
+
+/* The day of a calendar date; 0 for a date that is not in the calendar, and for one before day 1 or after the last. */
+uint16_t necktureen_day_of(uint16_t year, uint8_t month, uint8_t day_of_month);
 
 #ifdef __cplusplus
 }

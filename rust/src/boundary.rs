@@ -54,4 +54,8 @@ extern "C" {
         text: *mut u8,
         room: usize,
     ) -> usize;
+
+    pub fn necktureen_date_of(day: u16, year: *mut u16, month: *mut u8, day_of_month: *mut u8);
+
+    pub fn necktureen_day_of(year: u16, month: u8, day_of_month: u8) -> u16;
 }

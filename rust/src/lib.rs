@@ -4,6 +4,8 @@
 //! [`enrol`], [`submit`], [`withdraw`], [`report`] and [`journal`]; or a value, a [`Call`], that can be kept, written
 //! to a day sheet and made. [`play`] plays a whole day sheet.
 //!
+//! A day is a number, 1 for 1 January 2000. [`date_of`] answers its calendar [`Date`], and [`day_of`] the day of a date.
+//!
 //! No call relies on what its caller checked. A register of another length is answered [`Number::Misfit`], damaged
 //! bytes [`Number::Damaged`], and a refusal changes no byte. Nothing here panics, allocates or keeps anything between
 //! calls, and the standard library is not needed.
@@ -18,6 +20,7 @@ mod answer;
 mod boundary;
 mod call;
 mod calls;
+mod date;
 mod fields;
 pub mod indicator;
 mod journal;
@@ -28,6 +31,7 @@ mod sheet;
 pub use answer::{Answer, Reply, Report};
 pub use call::{Call, Submission, MISSING};
 pub use calls::{enrol, journal, play, report, submit, withdraw};
+pub use date::{date_of, day_of, Date};
 pub use journal::{entries, Entries, Entry, Read};
 pub use number::{Number, UnknownNumber};
 pub use sheet::{calls, Calls, SheetEntry, SheetWriter, Unwritten, SHEET_BYTES, TEXT_BYTES};

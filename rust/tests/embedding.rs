@@ -85,7 +85,8 @@ fn a_register_is_kept_in_a_file() {
 #[test]
 fn header_crate_and_library_declare_the_same_functions() {
     let header = declarations::of_c(&text("c/necktureen.h"));
-    let names = ["enrol", "journal", "play", "report", "submit", "withdraw"].map(|name| format!("necktureen_{name}"));
+    let names = ["date_of", "day_of", "enrol", "journal", "play", "report", "submit", "withdraw"];
+    let names = names.map(|name| format!("necktureen_{name}"));
     assert_eq!(header.keys().cloned().collect::<Vec<_>>(), names);
     assert_eq!(declarations::of_rust(&text("rust/src/boundary.rs")), header);
     assert_eq!(declarations::of_rust(&text("crates/necktureen/src/lib.rt")), header);
@@ -161,6 +162,20 @@ fn header_and_crate_have_one_version() {
     assert!(header.contains(&format!("#define NECKTUREEN_VERSION \"{version}\"\n")));
     let parts = ["MAJOR", "MINOR", "PATCH"].map(|part| format!("NECKTUREEN_VERSION_{part}"));
     assert_eq!(printed("version", &printing(&parts)), version.replace('.', "\n") + "\n");
+}
+
+/// C gets a date where its pointers say, zeros for day 0 too, and nothing beside it.
+#[test]
+fn a_date_is_put_where_c_says() {
+    let code = "#include <stdio.h>\n#include \"necktureen.h\"\nint main(void) {\n\
+        static const uint16_t asked[] = {0, 1, 60, 65535};\n    for (int i = 0; i < 4; i++) {\n        \
+        uint16_t y[] = {9, 9, 9};\n        uint8_t m[] = {9, 9, 9}, d[] = {9, 9, 9};\n        \
+        necktureen_date_of(asked[i], &y[1], &m[1], &d[1]);\n        \
+        printf(\"%u %u %u, %u %u %u, %u %u %u: \", y[0], y[1], y[2], m[0], m[1], m[2], d[0], d[1], d[2]);\n        \
+        printf(\"%u\\n\", necktureen_day_of(y[1], m[1], d[1]));\n    }\n    return 0;\n}\n";
+    let lines = "9 0 9, 9 0 9, 9 0 9: 0\n9 2000 9, 9 1 9, 9 1 9: 1\n9 2000 9, 9 2 9, 9 29 9: 60\n\
+        9 2179 9, 9 6 9, 9 5 9: 65535\n";
+    assert_eq!(printed("dates", code), lines);
 }
 
 /// An int that C would cut to a place is an error with -Wconversion; a constant that fits is none.

@@ -8,11 +8,11 @@ pub type Declarations = BTreeMap<String, Vec<String>>;
 /// From the header: `type name(type name, ..);`
 pub fn of_c(text: &str) -> Declarations {
     let mut found = Declarations::new();
-    for (answer, name, arguments) in functions(text, ");") {
-        let answer = answer.rsplit(['\n', ';', '}', '/']).next().unwrap_or("").trim().to_string();
-        let mut types: Vec<String> = arguments.iter().map(|argument| c_type(argument)).collect();
+    for function in functions(text).filter(|function| function.after.starts_with(';')) {
+        let answer = function.before.rsplit(['\n', ';', '}', '/']).next().unwrap_or("").trim().to_string();
+        let mut types: Vec<String> = function.arguments().map(c_type).collect();
         types.push(answer);
-        found.insert(name, types);
+        found.insert(function.name.to_string(), types);
     }
     found
 }
@@ -23,25 +23,24 @@ fn c_type(argument: &str) -> String {
     argument[..name].trim().to_string()
 }
 
-/// From Rust or Rattle: `fn name(name: type, ..) -> type`. A slice is a pointer and a length.
+/// From Rust or Rattle: `fn name(name: type, ..) -> type`, or without an arrow where nothing is answered. A slice is a
+/// pointer and a length.
 pub fn of_rust(text: &str) -> Declarations {
     let mut found = Declarations::new();
-    for (_, name, arguments) in functions(text, ") ->") {
-        let mut types = Vec::new();
-        for argument in &arguments {
-            let of = argument.split_once(':').map_or("", |parts| parts.1).trim();
-            types.extend(c_types(of).iter().map(|word| word.to_string()));
-        }
-        let after = text.split(&format!("{name}(")).nth(1).and_then(|rest| rest.split("->").nth(1)).unwrap_or("");
-        let answer = after.trim_start().split([';', '\n', ' ']).next().unwrap_or("");
-        types.extend(c_types(answer).iter().map(|word| word.to_string()));
-        found.insert(name, types);
+    for function in functions(text).filter(|function| function.before.ends_with("fn ")) {
+        let arguments =
+            function.arguments().map(|argument| argument.split_once(':').map_or("", |parts| parts.1).trim());
+        let answer = function.after.trim_start().strip_prefix("->").unwrap_or("void").trim_start();
+        let answer = answer.split([';', '\n', ' ']).next().unwrap_or("");
+        let types = arguments.chain([answer]).flat_map(c_types).map(|word| word.to_string());
+        found.insert(function.name.to_string(), types.collect());
     }
     found
 }
 
 fn c_types(of: &str) -> &'static [&'static str] {
     match of {
+        "void" => &["void"],
         "u8" => &["uint8_t"],
         "u16" => &["uint16_t"],
         "u32" => &["uint32_t"],
@@ -56,19 +55,27 @@ fn c_types(of: &str) -> &'static [&'static str] {
     }
 }
 
-/// What stands before each function's name, the name, and its arguments; `end` follows the last of them.
-fn functions<'a>(text: &'a str, end: &str) -> Vec<(&'a str, String, Vec<String>)> {
-    let mut found = Vec::new();
-    for (at, _) in text.match_indices("necktureen_") {
-        let rest = &text[at..];
-        let (Some(open), Some(close)) = (rest.find('('), rest.find(end)) else { continue };
-        let name = &rest[..open];
-        if close < open || !name.bytes().all(|b| b.is_ascii_lowercase() || b == b'_') || rest[open..close].contains('{')
-        {
-            continue;
-        }
-        let arguments = rest[open + 1..close].split(',').map(|a| a.trim().to_string()).filter(|a| !a.is_empty());
-        found.push((&text[..at], name.to_string(), arguments.collect()));
+/// A function's name and arguments, and what stands before and after them.
+struct Function<'a> {
+    before: &'a str,
+    name: &'a str,
+    arguments: &'a str,
+    after: &'a str,
+}
+
+impl<'a> Function<'a> {
+    fn arguments(&self) -> impl Iterator<Item = &'a str> {
+        self.arguments.split(',').map(str::trim).filter(|argument| !argument.is_empty())
     }
-    found
+}
+
+/// Each name with arguments in brackets.
+fn functions(text: &str) -> impl Iterator<Item = Function<'_>> {
+    text.match_indices("necktureen_").filter_map(|(at, _)| {
+        let (before, rest) = text.split_at(at);
+        let (name, rest) = rest.split_once('(')?;
+        let (arguments, after) = rest.split_once(')')?;
+        let is_name = name.bytes().all(|b| b.is_ascii_lowercase() || b == b'_');
+        is_name.then_some(Function { before, name, arguments, after })
+    })
 }
