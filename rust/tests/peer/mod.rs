@@ -1,8 +1,11 @@
-//! Document 01 written a second time, by hand and from the paper alone, for the comparison and the benchmark.
+//! Document 01, with the leap years of document 02, written a second time, by hand and from the papers alone, for the
+//! comparison and the benchmark.
 //!
-//! It shares with the library the types of a submission and of the answers and nothing else: register, rules, order of
-//! checks and day sheet are this file's own. Where the paper leaves room, a comment says how it is read.
+//! It shares with the library the types of a submission, of a date and of the answers and nothing else: register, rules,
+//! order of checks, calendar and day sheet are its own. Where the paper leaves room, a comment says how it is read.
 #![allow(dead_code)]
+
+pub mod calendar;
 
 use necktureen::{Answer, Number, Report, Submission};
 use std::fmt::Write;
@@ -517,7 +520,9 @@ fn check_volume(journal: &Journal, read: &Submission, advance: i64) -> Result<Nu
             return Ok(Number::High);
         }
     }
-    if advance * 365 < i64::from(journal.capacity) * days {
+    // The year is that of the read, whenever it is submitted.
+    let days_in_year = i64::from(calendar::days_in_year_of(read.day));
+    if advance * days_in_year < i64::from(journal.capacity) * days {
         Ok(Number::Accepted)
     } else {
         Err(Number::Capacity)
