@@ -1,9 +1,12 @@
-//! Submissions through the compiled library: every number that they answer, the edges, and the year of the demands.
+//! Submissions through the compiled library: every number that they answer, the edges, leap years among them, and the year
+//! of the demands.
 
 mod common;
 
 use common::*;
-use necktureen::{enrol, indicator, report, submit, withdraw, Answer, Number, Report, Submission, REGISTER_BYTES};
+use necktureen::{
+    day_of, enrol, indicator, report, submit, withdraw, Answer, Date, Number, Report, Submission, REGISTER_BYTES,
+};
 
 fn taken(flag: u8, advance: i64) -> Answer {
     Answer { number: Number::Accepted, flag, advance }
@@ -121,6 +124,69 @@ fn a_reread_is_held_to_the_capacity() {
     assert_eq!(submit(&mut register, 0, query).number, Number::High);
     refused(&register, Submission { reread: 1, ..query }, Number::Capacity);
 }
+
+// ---- Leap years in the capacity ----
+
+fn day(year: u16, month: u8, day: u8) -> u16 {
+    day_of(Date { year, month, day }).expect("a date of the calendar")
+}
+
+/// A meter of capacity 366 takes so much over ten days and not one more: 9 in a year of 366 days, 10 in one of 365.
+fn takes_at_most(most: u32, day: u16, submitted: u16) {
+    let mut register = with_reads(366, &[(day - 10, b'I', 1000)]);
+    let next = |advance| Submission { submitted, ..read(day, b'C', 1000 + advance) };
+    refused(&register, next(most + 1), Number::Capacity);
+    assert_eq!(submit(&mut register, 0, next(most)), taken(0, most.into()), "day {day}");
+}
+
+/// From its first day to its last, before 29 February and after it.
+#[test]
+fn a_leap_year_has_366_days() {
+    for year in [2004, 2096, 2104] {
+        for (month, of_month) in [(1, 1), (2, 28), (2, 29), (3, 1), (12, 31)] {
+            let day = day(year, month, of_month);
+            takes_at_most(9, day, day);
+        }
+    }
+    for day in [day(2000, 2, 29), day(2000, 12, 31)] {
+        takes_at_most(9, day, day);
+    }
+}
+
+/// 2100 is none: 36,526 is its first day.
+#[test]
+fn a_common_year_has_365_days() {
+    for year in [2001, 2003, 2005, 2100] {
+        for (month, of_month) in [(1, 1), (2, 28), (3, 1), (12, 31)] {
+            let day = day(year, month, of_month);
+            takes_at_most(10, day, day);
+        }
+    }
+}
+
+/// The reads stand on either side of a year's end, and the later one's year is taken.
+#[test]
+fn the_year_is_that_of_the_later_read() {
+    for (last_day, most, most_after) in [
+        (day(2000, 12, 31), 9, 10),
+        (day(2003, 12, 31), 10, 9),
+        (day(2004, 12, 31), 9, 10),
+        (day(2099, 12, 31), 10, 10),
+    ] {
+        takes_at_most(most, last_day, last_day);
+        takes_at_most(most_after, last_day + 1, last_day + 1);
+    }
+}
+
+/// A read of 31 December that is sent in January is a read of the old year.
+#[test]
+fn the_year_is_not_that_of_the_submission() {
+    takes_at_most(9, day(2004, 12, 31), day(2005, 1, 5));
+    takes_at_most(10, day(2003, 12, 31), day(2004, 1, 5));
+    takes_at_most(10, day(2099, 12, 31), day(2104, 2, 29));
+}
+
+// ---- Other edges ----
 
 #[test]
 fn the_largest_value_passes_and_the_next_does_not() {
