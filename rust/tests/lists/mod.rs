@@ -241,7 +241,8 @@ fn following_read(random: &mut Random, meter: &Meter, last: Read) -> Read {
 /// How far to go on from the last read: like the time before, or at an edge of one of the rules.
 fn advance(random: &mut Random, meter: &Meter, last: Read, days: i64) -> i64 {
     let (turn, days) = (meter.turn, days.max(1));
-    let by_capacity = meter.capacity * days / 365;
+    // By either length of a year: what the other one lets pass is worth a call too.
+    let by_capacity = meter.capacity * days / random.pick(&[365, 366]);
     let room = by_capacity.min(turn / 11);
     let edge = random.between(-2, 2);
     let (usual, usual_days) = meter.pace().unwrap_or((random.between(0, room), days));

@@ -1,6 +1,9 @@
 //! What a comparison reached: every number, and the states that take a long way to reach.
 
-use necktureen::{indicator, letter, Answer, Call, Number, Reply, Submission, AREA_BYTES, REGISTER_BYTES};
+use super::peer::calendar;
+use necktureen::{
+    entries, indicator, letter, Answer, Call, Entry, Number, Read, Reply, Submission, AREA_BYTES, REGISTER_BYTES,
+};
 use std::collections::BTreeMap;
 use std::fmt::Write as _;
 
@@ -15,7 +18,7 @@ pub struct Tally {
     query: [Option<Number>; PLACES],
 }
 
-const DEEP: [&str; 20] = [
+const DEEP: [&str; 25] = [
     "4 dials, a read accepted",
     "5 dials, a read accepted",
     "6 dials, a read accepted",
@@ -36,6 +39,11 @@ const DEEP: [&str; 20] = [
     "a rollover accepted with true",
     "a rollover withdrawn",
     "the 50th entry written",
+    "the most that the capacity lets pass in a common year",
+    "the most that the capacity lets pass in a leap year",
+    "the least that is refused with 21 in a common year",
+    "the least that is refused with 21 in a leap year",
+    "refused with 21, and in a common year it would pass",
 ];
 
 impl Tally {
@@ -70,6 +78,9 @@ impl Tally {
                 if answer.number == Number::Accepted {
                     self.count_accepted(place, read, answer, register);
                 }
+                if [Number::Accepted, Number::Capacity].contains(&answer.number) {
+                    self.count_edge(&register[AREA_BYTES * place..][..AREA_BYTES], read, answer.number);
+                }
                 self.count_query(place, read, answer.number);
             }
             Call::Withdraw { .. } if answer.flag == 1 => self.see("a rollover withdrawn"),
@@ -93,8 +104,7 @@ impl Tally {
             letter::RECONNECTION => self.see("a Y accepted"),
             _ => {}
         }
-        let capacity = i64::from(u32::from_le_bytes([area[2], area[3], area[4], area[5]]));
-        if read.letter == letter::RECONNECTION && answer.advance > 180 * capacity {
+        if read.letter == letter::RECONNECTION && answer.advance > 180 * capacity(area) {
             self.see("a Y accepted against the capacity");
         }
         if read.day == 65_535 {
@@ -102,6 +112,28 @@ impl Tally {
         }
         if area[496] == 2 {
             self.see("the 50th entry written");
+        }
+    }
+
+    /// Reads at the edge of the capacity: one more would be refused, or one less pass.
+    fn count_edge(&mut self, area: &[u8], read: Submission, number: Number) {
+        // A Y has no capacity check, and a rollover goes further than from value to value.
+        let by_values = |last: &Read| read.letter != letter::RECONNECTION && last.value <= read.value;
+        let Some(last) = last_before(area, read.day).filter(by_values) else {
+            return;
+        };
+        let (advance, days) = (i64::from(read.value) - i64::from(last.value), i64::from(read.day - last.day));
+        let (year, room) = (i64::from(calendar::days_in_year_of(read.day)), capacity(area) * days);
+        match (number, year) {
+            (Number::Accepted, _) if (advance + 1) * year < room => {}
+            (Number::Accepted, 365) => self.see("the most that the capacity lets pass in a common year"),
+            (Number::Accepted, _) => self.see("the most that the capacity lets pass in a leap year"),
+            (_, _) if (advance - 1) * year >= room => {}
+            (_, 365) => self.see("the least that is refused with 21 in a common year"),
+            (_, _) => self.see("the least that is refused with 21 in a leap year"),
+        }
+        if number == Number::Capacity && advance * 365 < room {
+            self.see("refused with 21, and in a common year it would pass");
         }
     }
 
@@ -143,4 +175,14 @@ impl Tally {
         let deep = self.deep.iter().filter(|row| *row.1 == 0).map(|row| row.0.to_string());
         numbers.chain(deep).collect()
     }
+}
+
+fn capacity(area: &[u8]) -> i64 {
+    i64::from(u32::from_le_bytes([area[2], area[3], area[4], area[5]]))
+}
+
+/// The last standing read before a day.
+fn last_before(area: &[u8], day: u16) -> Option<Read> {
+    let standing = entries(area).filter(|entry| matches!(entry, Entry::Standing(_))).filter_map(|entry| entry.read());
+    standing.filter(|read| read.day < day).last()
 }
