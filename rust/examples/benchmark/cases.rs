@@ -16,6 +16,7 @@ pub fn rows() -> Vec<Row> {
     rows.extend(WITHDRAWN.map(|(case, withdrawn)| withdraw(case, 50, withdrawn)));
     rows.push(enrol());
     rows.extend([0, 50].map(|entries| row(Made::Journal, "handed back", entries, Number::Accepted)));
+    rows.extend([(Made::DateOf, "the date of a day"), (Made::DayOf, "the day of a date")].map(calendar));
     rows
 }
 
@@ -102,4 +103,9 @@ fn withdraw(case: &'static str, entries: usize, withdrawn: Withdrawn) -> Row {
 fn enrol() -> Row {
     let made = Made::Enrol { dials: DIALS, capacity: CAPACITY };
     Row { register: vec![0; REGISTER_BYTES], ..row(made, "accepted", 0, Number::Accepted) }
+}
+
+/// Without a register.
+fn calendar((made, case): (Made, &'static str)) -> Row {
+    Row { register: Vec::new(), ..row(made, case, 0, Number::Accepted) }
 }

@@ -1,11 +1,12 @@
-//! A row of the tables: a call, the journals that it is made on, and the answer that it gets.
+//! A row of the tables: a call, the journals that it is made on, and the answer that it gets. A call of the calendar is
+//! made on none.
 
 use crate::sides::{Side, LIBRARY, PEER};
-use necktureen::{Number, Submission};
+use necktureen::{Date, Number, Submission};
 use std::hint::black_box;
 use std::time::{Duration, Instant};
 
-/// A call without its place.
+/// A call without its place. The two of the calendar have no place: each of the 64 stands for a day.
 #[derive(Clone, Copy)]
 pub enum Made {
     Enrol { dials: u8, capacity: u32 },
@@ -13,6 +14,15 @@ pub enum Made {
     Withdraw { day: u16, value: u32 },
     Report,
     Journal,
+    DateOf,
+    DayOf,
+}
+
+/// From one day that the calendar is asked for to the next: 64 of them are spread over its years, and over the months.
+const DAYS_APART: u16 = 1021;
+
+fn day_at(place: u16) -> u16 {
+    DAYS_APART * (place + 1)
 }
 
 impl Made {
@@ -23,6 +33,8 @@ impl Made {
             Made::Withdraw { .. } => "withdraw",
             Made::Report => "report",
             Made::Journal => "journal",
+            Made::DateOf => "date_of",
+            Made::DayOf => "day_of",
         }
     }
 }
@@ -31,7 +43,8 @@ pub struct Row {
     pub call: &'static str,
     pub case: &'static str,
     pub entries: usize,
-    /// What the call is answered. The journal call, which answers no number, has that of a report.
+    /// What the call is answered. The journal call, which answers no number, has that of a report, and a call of the
+    /// calendar is accepted if day and date lead to each other.
     pub expected: Number,
     pub made: Made,
     /// Where the calls go, one after the other.
@@ -48,7 +61,7 @@ impl Row {
     /// A call that stores or marks a read finds another register the second time.
     fn changes(&self) -> bool {
         let stored = [Number::Accepted, Number::Low, Number::High].contains(&self.expected);
-        stored && !matches!(self.made, Made::Report | Made::Journal)
+        stored && matches!(self.made, Made::Enrol { .. } | Made::Submit(_) | Made::Withdraw { .. })
     }
 
     /// Holds both sides to the answer that the row names.
@@ -68,6 +81,10 @@ impl Row {
             Made::Report => (side.report)(register, place).number,
             Made::Journal if (side.journal)(register, place).is_empty() => Number::NoMeter,
             Made::Journal => Number::Accepted,
+            Made::DateOf | Made::DayOf => match (side.date_of)(day_at(place)).and_then(side.day_of) {
+                Some(day) if day == day_at(place) => Number::Accepted,
+                _ => Number::Date,
+            },
         }
     }
 
@@ -89,6 +106,15 @@ impl Row {
             Made::Journal => self.stretches(passes, |register, place| {
                 let _ = black_box((side.journal)(register, place));
             }),
+            Made::DateOf => self.stretches(passes, |_, place| {
+                let _ = black_box((side.date_of)(day_at(place)));
+            }),
+            Made::DayOf => {
+                let dates: Vec<Date> = self.places.iter().filter_map(|&place| (PEER.date_of)(day_at(place))).collect();
+                self.stretches(passes, |_, place| {
+                    let _ = black_box((side.day_of)(dates[usize::from(place)]));
+                })
+            }
         }
     }
 

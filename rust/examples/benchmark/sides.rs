@@ -1,7 +1,7 @@
 //! The two sides: the library, and the peer, a second writing of the same rules by hand.
 
 use crate::peer;
-use necktureen::{Answer, Report, Submission};
+use necktureen::{Answer, Date, Report, Submission};
 
 /// Both sides are called through pointers, so that neither is inlined into the loop that calls it.
 #[derive(Clone, Copy)]
@@ -11,6 +11,8 @@ pub struct Side {
     pub withdraw: fn(&mut [u8], u16, u16, u32) -> Answer,
     pub report: fn(&[u8], u16) -> Report,
     pub journal: fn(&[u8], u16) -> &[u8],
+    pub date_of: fn(u16) -> Option<Date>,
+    pub day_of: fn(Date) -> Option<u16>,
 }
 
 pub const LIBRARY: Side = Side {
@@ -19,6 +21,8 @@ pub const LIBRARY: Side = Side {
     withdraw: necktureen::withdraw,
     report: necktureen::report,
     journal: necktureen::journal,
+    date_of: necktureen::date_of,
+    day_of: necktureen::day_of,
 };
 
 pub const PEER: Side = Side {
@@ -27,4 +31,6 @@ pub const PEER: Side = Side {
     withdraw: peer::withdraw,
     report: peer::report,
     journal: peer::journal,
+    date_of: peer::calendar::date_of,
+    day_of: peer::calendar::day_of,
 };
