@@ -67,6 +67,7 @@ const FAULTS: &[(&str, &str)] = &[
     ("enrol place 0 dials 256 capacity 1", "dials is a whole number from 0 to 255, not '256'"),
     ("enrol place 0 dials 4 capacity 4294967296", "capacity is a whole number from 0 to 4294967295, not '4294967296'"),
     ("withdraw place 0 day 2001-02-29 value 1", "day: 2001-02-29 is not in the calendar"),
+    ("withdraw place 0 day 2100-02-29 value 1", "day: 2100-02-29 is not in the calendar"),
     ("withdraw place 0 day 2000-13-01 value 1", "day: 2000-13-01 is not in the calendar"),
     ("withdraw place 0 day 1999-12-31 value 1", "day: 1999-12-31 is before the first day, 2000-01-01"),
     ("withdraw place 0 day 2179-06-06 value 1", "day: 2179-06-06 is after the last day, 2179-06-05"),

@@ -16,7 +16,7 @@ pub use registers::{any_register, misfit_register};
 pub use settings::{say, seed, setting};
 pub use shorten::{hexadecimal, shortened};
 
-use necktureen::{Call, Submission, AREA_BYTES};
+use necktureen::{date_of, day_of, Call, Date, Submission, AREA_BYTES};
 
 // ---- What a register holds, as far as picking a call needs it ----
 
@@ -205,6 +205,8 @@ fn opening_read(random: &mut Random, meter: &Meter) -> Read {
     let day = match random.index(8) {
         0 => random.between(1, 65_535),
         1 => random.between(65_000, 65_535),
+        // From 2099 on: 2100 is no leap year.
+        2 => random.between(36_161, 36_890),
         _ => random.between(1, 3000),
     };
     let after = meter.withdrawn.iter().map(|read| i64::from(read.day)).max().unwrap_or(0);
@@ -220,11 +222,12 @@ fn opening_read(random: &mut Random, meter: &Meter) -> Read {
 }
 
 fn following_read(random: &mut Random, meter: &Meter, last: Read) -> Read {
-    let days = match random.index(8) {
+    let days = match random.index(9) {
         0 => 1,
         1 => random.between(1, 400),
         2 => random.between(1, 1500),
         3 => random.between(-30, 2),
+        4 => days_to_new_year(last.day) - random.between(0, 1),
         _ => random.pick(&[30, 90, 180, 180, 365]),
     };
     let aim = i64::from(last.value) + advance(random, meter, last, days);
@@ -236,6 +239,12 @@ fn following_read(random: &mut Random, meter: &Meter, last: Read) -> Read {
     };
     let day = (i64::from(last.day) + days).clamp(0, 65_535);
     Read { day: day as u16, value: value as u32, letter: letter(random), indicator }
+}
+
+fn days_to_new_year(day: u16) -> i64 {
+    let year = date_of(day).map_or(2000, |date| date.year + 1);
+    let new_year = day_of(Date { year, month: 1, day: 1 }).unwrap_or(u16::MAX);
+    i64::from(new_year) - i64::from(day)
 }
 
 /// How far to go on from the last read: like the time before, or at an edge of one of the rules.
