@@ -5,8 +5,8 @@
 use crate::boundary;
 use core::fmt;
 
-/// A calendar date; dates are in order of time. Its fields may also be none of the calendar's, as in 2001-02-29:
-/// [`day_of`] tells.
+/// A calendar date. An earlier one is less. The fields can also be none that the calendar has, as in 2001-02-29:
+/// [`day_of`] finds no day for it.
 #[derive(Clone, Copy, Debug, PartialEq, Eq, PartialOrd, Ord)]
 pub struct Date {
     /// The year, as in 2000.

@@ -4,7 +4,7 @@
 //! [`enrol`], [`submit`], [`withdraw`], [`report`] and [`journal`]; or a value, a [`Call`], that can be kept, written
 //! to a day sheet and made. [`play`] plays a whole day sheet.
 //!
-//! A day is a number, 1 for 1 January 2000. [`date_of`] answers its calendar [`Date`], and [`day_of`] the day of a date.
+//! A day is a number, 1 for 1 January 2000. [`date_of`] answers its calendar [`Date`], [`day_of`] the day of a date.
 //!
 //! No call relies on what its caller checked. A register of another length is answered [`Number::Misfit`], damaged
 //! bytes [`Number::Damaged`], and a refusal changes no byte. Nothing here panics, allocates or keeps anything between

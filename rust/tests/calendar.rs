@@ -1,4 +1,4 @@
-//! The calendar through the compiled library: every day number, and every date of its years, beside the peer's counting.
+//! The calendar through the compiled library: every day, and every date of its years, beside the peer's counting.
 
 mod peer;
 

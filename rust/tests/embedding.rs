@@ -167,7 +167,7 @@ fn header_and_crate_have_one_version() {
 /// C gets a date where its pointers say, zeros for day 0 too, and nothing beside it.
 #[test]
 fn a_date_is_put_where_c_says() {
-    let code = "#include <stdio.h>\n#include \"necktureen.h\"\nint main(void) {\n\
+    let code = "#include <stdio.h>\n#include \"necktureen.h\"\nint main(void) {\n    \
         static const uint16_t asked[] = {0, 1, 60, 65535};\n    for (int i = 0; i < 4; i++) {\n        \
         uint16_t y[] = {9, 9, 9};\n        uint8_t m[] = {9, 9, 9}, d[] = {9, 9, 9};\n        \
         necktureen_date_of(asked[i], &y[1], &m[1], &d[1]);\n        \

@@ -1,5 +1,5 @@
-//! Submissions through the compiled library: every number that they answer, the edges, leap years among them, and the year
-//! of the demands.
+//! Submissions through the compiled library: every number that they answer, the edges, leap years among them, and the
+//! year of the demands.
 
 mod common;
 
