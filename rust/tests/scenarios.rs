@@ -69,6 +69,8 @@ const FAULTS: &[(&str, &str)] = &[
     ("withdraw place 0 day 2001-02-29 value 1", "day: 2001-02-29 is not in the calendar"),
     ("withdraw place 0 day 2100-02-29 value 1", "day: 2100-02-29 is not in the calendar"),
     ("withdraw place 0 day 2000-13-01 value 1", "day: 2000-13-01 is not in the calendar"),
+    ("withdraw place 0 day 1999-02-30 value 1", "day: 1999-02-30 is not in the calendar"),
+    ("withdraw place 0 day 2179-13-01 value 1", "day: 2179-13-01 is not in the calendar"),
     ("withdraw place 0 day 1999-12-31 value 1", "day: 1999-12-31 is before the first day, 2000-01-01"),
     ("withdraw place 0 day 2179-06-06 value 1", "day: 2179-06-06 is after the last day, 2179-06-05"),
     ("withdraw place 0 day 1-2-2000 value 1", "day: '1-2-2000' is not a date such as 2000-06-15"),

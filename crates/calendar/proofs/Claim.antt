@@ -1,17 +1,18 @@
 -- The claim's parts, from what is known of the dates of days and the days of dates.
 use mathlib.Core.Path.{_≡_, refl, subst, _∙_}
 use mathlib.Core.Bool.{Bool, true, false}
-use Prim.Native.Nat.{ℕ, zero, suc, _-_, _≤_, _<_}
+use Prim.Native.Nat.{ℕ, zero, suc, _+_, _-_, _≤_, _<_}
 use native.Mathlib.Omega.{arith}
 use borrow.Author.Tests.{ltb-true, ltb-false}
 use lib.Dec.{ltb}
 use Rattle.calendar.specs.declared.date.Date.{Date}
-use Rattle.calendar.specs.Year.{isLeap, yearLength, yearStart, firstYear}
+use Rattle.calendar.specs.Year.{isLeap, yearLength, yearStart, firstYear, yearsHeld}
 use Rattle.calendar.specs.Month.{hasThirty, lengthIn, monthLength}
-use Rattle.calendar.specs.Date.{isInCalendar, noDate, after, firstDate, lastDay, dateOf, dayOf}
+use Rattle.calendar.specs.Date.{date, isInCalendar, noDate, after, firstDate, lastDay, dateOf, dayOf}
 use Rattle.calendar.specs.Claims.{Earlier, byYear, lastDate, CalendarHolds}
 use Rattle.calendar.specs.Inner.Placed.{daysBefore}
 use Rattle.calendar.proofs.Years.{start-bounds}
+use Rattle.calendar.proofs.Counting.{to-year}
 use Rattle.calendar.proofs.Order.{calendar-true, true-calendar, after-in}
 use Rattle.calendar.proofs.Search.{date-past, after-earlier, Found, has, none, found-day}
 use Rattle.calendar.proofs.Dates.{day-some, numberOf, counted, number-some, day-number, date-day}
@@ -69,6 +70,11 @@ whole d h f l = by-tests (ltb (d .year) firstYear) refl (ltb lastDay (numberOf d
         let y = ltb-false (d .year) firstYear p in
         omega (arith, day-number d (calendar-true d h) y (ltb-false lastDay (numberOf d) q), start-bounds (d .year - firstYear) .0)
 
+starts : (k : ℕ) → k < yearsHeld → dateOf (yearStart k) ≡ date (firstYear + k) 1 1
+starts k h =
+    let b = start-bounds k in
+    date-day (yearStart k) (omega arith) (omega arith) ∙ to-year k (yearStart k - 1) (omega arith)
+
 pub calendar : CalendarHolds
 calendar =
     record {
@@ -79,4 +85,5 @@ calendar =
       first = first;
       last = date-day lastDay (omega arith) (omega arith) ∙ last-counted;
       whole = whole;
+      starts = starts;
     }

@@ -8,10 +8,10 @@ use native.Mathlib.Omega.{arith}
 use borrow.Author.Tests.{lt-ltb, le-ltb}
 use Rattle.calendar.specs.declared.date.Date.{Date}
 use Rattle.calendar.specs.Year.{isLeap, yearLength, yearStart, firstYear}
-use Rattle.calendar.specs.Month.{monthLength, monthsHeld}
+use Rattle.calendar.specs.Month.{monthLength, monthsInYear}
 use Rattle.calendar.specs.Date.{date, next, after, firstDate}
 use Rattle.calendar.specs.Inner.Placed.{daysBefore}
-use Rattle.calendar.proofs.Years.{start-bounds}
+use Rattle.calendar.proofs.Years.{year-more, start-bounds}
 use Rattle.calendar.proofs.Months.{length-bounds, year-days}
 
 -- ---- one day on
@@ -20,13 +20,13 @@ module _ (year month day : ℕ) where
   unfolding next
   next-day h = rw (lt-ltb day (monthLength year month) h)
 
-  pub next-month : monthLength year month ≤ day → month < monthsHeld → next (date year month day) ≡ date year (month + 1) 1
+  pub next-month : monthLength year month ≤ day → month < monthsInYear → next (date year month day) ≡ date year (month + 1) 1
   unfolding next
-  next-month h l = rw (le-ltb day (monthLength year month) h, lt-ltb month monthsHeld l)
+  next-month h l = rw (le-ltb day (monthLength year month) h, lt-ltb month monthsInYear l)
 
-  pub next-year : monthLength year month ≤ day → monthsHeld ≤ month → next (date year month day) ≡ date (year + 1) 1 1
+  pub next-year : monthLength year month ≤ day → monthsInYear ≤ month → next (date year month day) ≡ date (year + 1) 1 1
   unfolding next
-  next-year h l = rw (le-ltb day (monthLength year month) h, le-ltb month monthsHeld l)
+  next-year h l = rw (le-ltb day (monthLength year month) h, le-ltb month monthsInYear l)
 
 -- ---- many days on
 pub after-sum : (n k : ℕ) (d : Date) → after (n + k) d ≡ after k (after n d)
@@ -72,7 +72,7 @@ module _ (year : ℕ) where
       ∙ ap (after (monthLength year (suc m))) h
       ∙ past-month year (suc m)
 
-  to-month : (m : ℕ) → m < monthsHeld → after (before m) (date year 1 1) ≡ date year (suc m) 1
+  to-month : (m : ℕ) → m < monthsInYear → after (before m) (date year 1 1) ≡ date year (suc m) 1
   unfolding after daysBefore
   to-month zero h = refl
   to-month (suc m) h =
@@ -88,11 +88,7 @@ module _ (year : ℕ) where
       ∙ ap (λ (n : ℕ). date n 1 1) (add-one year)
 
 -- ---- from 1 January 2000
-pub year-more : (k : ℕ) → yearStart (suc k) ≡ yearStart k + yearLength (firstYear + k)
-unfolding yearStart
-year-more k = refl
-
-to-year : (k n : ℕ) → yearStart k ≡ suc n → after n firstDate ≡ date (firstYear + k) 1 1
+pub to-year : (k n : ℕ) → yearStart k ≡ suc n → after n firstDate ≡ date (firstYear + k) 1 1
 unfolding after yearStart
 to-year zero n e = ap (λ (i : ℕ). after i firstDate) (let z : n ≡ 0 = omega arith in z)
 to-year (suc k) n e =
@@ -106,7 +102,7 @@ to-year (suc k) n e =
     ∙ ap (λ (i : ℕ). date i 1 1) (sym (add-suc firstYear k))
 
 -- the count to the day j, counted from 0, of the month m, counted from 0, of the year k after 2000
-module _ (k m j : ℕ) (h : m < monthsHeld) (l : j < monthLength (firstYear + k) (suc m)) where
+module _ (k m j : ℕ) (h : m < monthsInYear) (l : j < monthLength (firstYear + k) (suc m)) where
   pub reached : (n : ℕ) → suc n ≡ yearStart k + daysBefore (isLeap (firstYear + k)) m + j → after n firstDate ≡ date (firstYear + k) (suc m) (j + 1)
   reached n e =
       let year : ℕ = firstYear + k in

@@ -8,12 +8,12 @@ use borrow.Author.Tests.{ltb-true, ltb-false}
 use lib.Dec.{ltb}
 use Rattle.calendar.specs.declared.date.Date.{Date}
 use Rattle.calendar.specs.Year.{isLeap, yearStart, firstYear, yearsHeld}
-use Rattle.calendar.specs.Month.{monthLength, monthsHeld}
+use Rattle.calendar.specs.Month.{monthLength, monthsInYear}
 use Rattle.calendar.specs.Date.{isInCalendar, date, after, firstDate, lastDay, dateOf, dayOf}
 use Rattle.calendar.specs.Inner.Placed.{daysBefore, YearAt, MonthAt, monthBy}
-use Rattle.calendar.proofs.Years.{start-bounds}
+use Rattle.calendar.proofs.Years.{year-more, start-bounds}
 use Rattle.calendar.proofs.Months.{days-more, length-bounds, year-days, month-placed}
-use Rattle.calendar.proofs.Counting.{month-more, year-more, reached}
+use Rattle.calendar.proofs.Counting.{month-more, reached}
 use Rattle.calendar.proofs.Order.{earlier-not-same, InCalendar, calendar-true, true-calendar, after-in, after-year}
 use Rattle.calendar.proofs.Search.{date-some, after-earlier, same-parts, Found, has, none, found-day}
 
@@ -102,7 +102,7 @@ module _ (day k : ℕ) (at : YearAt day k) (most : day ≤ lastDay) where
   abbrev of-year : ℕ
   of-year = day - yearStart k
 
-  pub of-year-below : of-year < daysBefore leap monthsHeld
+  pub of-year-below : of-year < daysBefore leap monthsInYear
   of-year-below = rw year-days (omega (arith, at .from, at .to, year-more k, start-bounds k .0))
 
   pub of-month-below : (m : ℕ) → MonthAt leap of-year m → of-year - daysBefore leap m < 31

@@ -7,7 +7,7 @@ use native.Mathlib.Omega.{arith}
 use borrow.Author.Tests.{ltb-true, ltb-false}
 use lib.Dec.{eqb, ltb}
 use Rattle.calendar.specs.Year.{isLeap, yearLength}
-use Rattle.calendar.specs.Month.{hasThirty, lengthIn, monthsHeld}
+use Rattle.calendar.specs.Month.{hasThirty, lengthIn, monthsInYear}
 use Rattle.calendar.specs.Inner.Placed.{daysBefore, MonthAt, lackingIn, evenDay, startBy, monthBy}
 use Rattle.calendar.proofs.Spans.{gives, finds, given, Ends, found, placed, quotient-rises}
 
@@ -24,12 +24,12 @@ module _ (leap : Bool) where
   first = refl
 
 -- ---- the divisions are right for each of the twelve months
-starts-right : (leap : Bool) → gives (startBy leap) (length-of leap) 0 0 monthsHeld ≡ true
+starts-right : (leap : Bool) → gives (startBy leap) (length-of leap) 0 0 monthsInYear ≡ true
 unfolding gives lackingIn lengthIn hasThirty
 starts-right true = refl
 starts-right false = refl
 
-months-right : (leap : Bool) → finds (monthBy leap) (length-of leap) 0 0 monthsHeld ≡ true
+months-right : (leap : Bool) → finds (monthBy leap) (length-of leap) 0 0 monthsInYear ≡ true
 unfolding finds evenDay lackingIn lengthIn hasThirty
 months-right true = refl
 months-right false = refl
@@ -48,15 +48,15 @@ even-most leap day = by-test (ltb (day + lackingIn leap) 61)
     by-test true = omega arith
     by-test false = omega (arith, lacking-bounds leap .1)
 
-pub year-most : (leap : Bool) → daysBefore leap monthsHeld ≤ 366
+pub year-most : (leap : Bool) → daysBefore leap monthsInYear ≤ 366
 unfolding daysBefore lengthIn hasThirty
 year-most true = omega arith
 year-most false = omega arith
 
 module _ (leap : Bool) where
-  pub days-before-at : (m : ℕ) → m < monthsHeld → startBy leap m ≡ daysBefore leap m
+  pub days-before-at : (m : ℕ) → m < monthsInYear → startBy leap m ≡ daysBefore leap m
   days-before-at m h =
-      rw zero-add at (given (daysBefore leap) (length-of leap) (days-more leap) (startBy leap) monthsHeld 0 0 (first leap) (starts-right leap) m h)
+      rw zero-add at (given (daysBefore leap) (length-of leap) (days-more leap) (startBy leap) monthsInYear 0 0 (first leap) (starts-right leap) m h)
 
   even-rises : (a b : ℕ) → a ≤ b → evenDay leap a ≤ evenDay leap b
   unfolding evenDay
@@ -71,21 +71,21 @@ module _ (leap : Bool) where
   month-rises : (a b : ℕ) → a ≤ b → monthBy leap a ≤ monthBy leap b
   month-rises a b h = quotient-rises 367 _ _ (omega arith) (omega (arith, even-rises a b h))
 
-  ends-at : (m : ℕ) → m < monthsHeld → Ends (daysBefore leap) (length-of leap) (days-more leap) (monthBy leap) m
+  ends-at : (m : ℕ) → m < monthsInYear → Ends (daysBefore leap) (length-of leap) (days-more leap) (monthBy leap) m
   ends-at m h =
-      rw zero-add at (found (daysBefore leap) (length-of leap) (days-more leap) (monthBy leap) monthsHeld 0 0 (first leap) (months-right leap) m h)
+      rw zero-add at (found (daysBefore leap) (length-of leap) (days-more leap) (monthBy leap) monthsInYear 0 0 (first leap) (months-right leap) m h)
 
-  pub month-placed : (day : ℕ) → day < daysBefore leap monthsHeld → MonthAt leap day (monthBy leap day)
+  pub month-placed : (day : ℕ) → day < daysBefore leap monthsInYear → MonthAt leap day (monthBy leap day)
   month-placed day h =
-      placed (daysBefore leap) (length-of leap) (days-more leap) (monthBy leap) month-rises monthsHeld ends-at day (omega (arith, first leap)) h
+      placed (daysBefore leap) (length-of leap) (days-more leap) (monthBy leap) month-rises monthsInYear ends-at day (omega (arith, first leap)) h
 
 -- ---- the twelve months are the year
-year-days-in : (leap : Bool) → daysBefore leap monthsHeld ≡ cond leap 366 365
+year-days-in : (leap : Bool) → daysBefore leap monthsInYear ≡ cond leap 366 365
 unfolding daysBefore lengthIn hasThirty
 year-days-in true = refl
 year-days-in false = refl
 
-pub year-days : (year : ℕ) → daysBefore (isLeap year) monthsHeld ≡ yearLength year
+pub year-days : (year : ℕ) → daysBefore (isLeap year) monthsInYear ≡ yearLength year
 unfolding yearLength
 year-days year = year-days-in (isLeap year)
 

@@ -8,7 +8,7 @@ use borrow.Author.Tests.{leb-true, le-leb, ltb-true}
 use lib.Dec.{leb, ltb}
 use Rattle.calendar.specs.declared.date.Date.{Date}
 use Rattle.calendar.specs.Year.{firstYear}
-use Rattle.calendar.specs.Month.{monthLength, monthsHeld}
+use Rattle.calendar.specs.Month.{monthLength, monthsInYear}
 use Rattle.calendar.specs.Date.{isInCalendar, date, next, after, firstDate}
 use Rattle.calendar.specs.Claims.{Earlier, byYear, byMonth, byDay}
 use Rattle.calendar.proofs.Counting.{month-some}
@@ -32,7 +32,7 @@ earlier-not-same (byDay f g h) e = let s = ap (λ (d : Date). d .day) e in omega
 
 pub next-later : (d : Date) → Earlier d (next d)
 unfolding next
-next-later d = by-tests (ltb (d .day) (monthLength (d .year) (d .month))) (ltb (d .month) monthsHeld)
+next-later d = by-tests (ltb (d .day) (monthLength (d .year) (d .month))) (ltb (d .month) monthsInYear)
   where
     by-tests : (x y : Bool) → Earlier d (cond x (date (d .year) (d .month) (d .day + 1)) (cond y (date (d .year) (d .month + 1) 1) (date (d .year + 1) 1 1)))
     by-tests true y = byDay refl refl (omega arith)
@@ -47,15 +47,15 @@ after-rises d n (suc k) = rw add-suc (earlier-trans (after-rises d n k) (next-la
 -- ---- in the calendar
 pub record InCalendar (d : Date) : Type 0 where
   pub month-least : 1 ≤ d .month
-  pub month-most : d .month ≤ monthsHeld
+  pub month-most : d .month ≤ monthsInYear
   pub day-least : 1 ≤ d .day
   pub day-most : d .day ≤ monthLength (d .year) (d .month)
 
 pub calendar-true : (d : Date) → isInCalendar d ≡ true → InCalendar d
 unfolding isInCalendar
 calendar-true d h =
-    let t = and-eq-true-iff (leb 1 (d .month) && leb (d .month) monthsHeld) (leb 1 (d .day) && leb (d .day) (monthLength (d .year) (d .month))) .0 h in
-    let m = and-eq-true-iff (leb 1 (d .month)) (leb (d .month) monthsHeld) .0 (t .0) in
+    let t = and-eq-true-iff (leb 1 (d .month) && leb (d .month) monthsInYear) (leb 1 (d .day) && leb (d .day) (monthLength (d .year) (d .month))) .0 h in
+    let m = and-eq-true-iff (leb 1 (d .month)) (leb (d .month) monthsInYear) .0 (t .0) in
     let n = and-eq-true-iff (leb 1 (d .day)) (leb (d .day) (monthLength (d .year) (d .month))) .0 (t .1) in
     record {
       month-least = leb-true _ _ (m .0);
@@ -67,13 +67,13 @@ calendar-true d h =
 pub true-calendar : {d : Date} → InCalendar d → isInCalendar d ≡ true
 unfolding isInCalendar
 true-calendar {d} h =
-    rw (le-leb 1 (d .month) (h .month-least), le-leb (d .month) monthsHeld (h .month-most), le-leb 1 (d .day) (h .day-least), le-leb (d .day) (monthLength (d .year) (d .month)) (h .day-most))
+    rw (le-leb 1 (d .month) (h .month-least), le-leb (d .month) monthsInYear (h .month-most), le-leb 1 (d .day) (h .day-least), le-leb (d .day) (monthLength (d .year) (d .month)) (h .day-most))
 
 next-in : (d : Date) → InCalendar d → InCalendar (next d)
 unfolding next
-next-in d h = by-tests (ltb (d .day) (monthLength (d .year) (d .month))) refl (ltb (d .month) monthsHeld) refl
+next-in d h = by-tests (ltb (d .day) (monthLength (d .year) (d .month))) refl (ltb (d .month) monthsInYear) refl
   where
-    by-tests : (x : Bool) → ltb (d .day) (monthLength (d .year) (d .month)) ≡ x → (y : Bool) → ltb (d .month) monthsHeld ≡ y → InCalendar (cond x (date (d .year) (d .month) (d .day + 1)) (cond y (date (d .year) (d .month + 1) 1) (date (d .year + 1) 1 1)))
+    by-tests : (x : Bool) → ltb (d .day) (monthLength (d .year) (d .month)) ≡ x → (y : Bool) → ltb (d .month) monthsInYear ≡ y → InCalendar (cond x (date (d .year) (d .month) (d .day + 1)) (cond y (date (d .year) (d .month + 1) 1) (date (d .year + 1) 1 1)))
     by-tests true e y f =
         record {
           month-least = h .month-least;
@@ -84,7 +84,7 @@ next-in d h = by-tests (ltb (d .day) (monthLength (d .year) (d .month))) refl (l
     by-tests false e true f =
         record {
           month-least = omega arith;
-          month-most = omega (arith, ltb-true (d .month) monthsHeld f);
+          month-most = omega (arith, ltb-true (d .month) monthsInYear f);
           day-least = omega arith;
           day-most = month-some (d .year) (d .month + 1);
         }

@@ -1,8 +1,9 @@
--- 02, request 1: what holds of the conversion between days and dates, each way, for every day and every date.
+-- 02, 1: what holds of the conversion between days and dates, each way, for every day and every date.
 use mathlib.Core.Path.{_≡_}
 use mathlib.Core.Bool.{true}
-use Prim.Native.Nat.{ℕ, _≤_, _<_}
+use Prim.Native.Nat.{ℕ, _+_, _≤_, _<_}
 use Rattle.calendar.specs.declared.date.Date.{Date}
+use Rattle.calendar.specs.Year.{firstYear, yearsHeld, yearStart}
 use Rattle.calendar.specs.Date.{date, isInCalendar, noDate, firstDate, lastDay, dateOf, dayOf}
 
 -- an earlier year; or the same year and an earlier month; or the same month and an earlier day
@@ -11,7 +12,7 @@ pub data Earlier (a b : Date) : Type 0 where
   byMonth : a .year ≡ b .year → a .month < b .month → Earlier a b
   byDay : a .year ≡ b .year → a .month ≡ b .month → a .day < b .day → Earlier a b
 
--- "65,535 is 2179-06-05"
+-- the date of the last day
 abbrev pub lastDate : Date
 lastDate = date 2179 6 5
 
@@ -27,3 +28,5 @@ pub record CalendarHolds : Type 0 where
   pub first : dateOf 1 ≡ firstDate
   pub last : dateOf lastDay ≡ lastDate
   pub whole : (d : Date) → isInCalendar d ≡ true → (Earlier d firstDate → ⊥) → (Earlier lastDate d → ⊥) → 1 ≤ dayOf d
+  -- the table's rule gives "the day numbers on which the years 2000 to 2179 begin"
+  pub starts : (k : ℕ) → k < yearsHeld → dateOf (yearStart k) ≡ date (firstYear + k) 1 1

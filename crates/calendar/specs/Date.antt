@@ -1,10 +1,10 @@
--- 02, request 1: "conversion between day number and year, month, day: the calendar date of each day from 1 to 65,535 and back, and zeros for any
--- other day or date."
+-- 02, 1: "conversion between day number and year, month, day: the calendar date of each day from 1 to 65,535 and back, and zeros for any other
+-- day or date."
 use mathlib.Core.Bool.{Bool, cond, _&&_}
 use Prim.Native.Nat.{ℕ, zero, suc, _+_}
 use lib.Dec.{eqb, leb, ltb}
 use Rattle.calendar.specs.declared.date.Date.{Date}
-use Rattle.calendar.specs.Month.{monthLength, monthsHeld}
+use Rattle.calendar.specs.Month.{monthLength, monthsInYear}
 
 abbrev pub date : ℕ → ℕ → ℕ → Date
 date year month day = record { year = year; month = month; day = day }
@@ -12,7 +12,7 @@ date year month day = record { year = year; month = month; day = day }
 -- a date of the calendar: a month from 1 to 12, and a day from 1 to the month's last
 unfoldable pub isInCalendar : Date → Bool
 isInCalendar d =
-    (leb 1 (d .month) && leb (d .month) monthsHeld) && (leb 1 (d .day) && leb (d .day) (monthLength (d .year) (d .month)))
+    (leb 1 (d .month) && leb (d .month) monthsInYear) && (leb 1 (d .day) && leb (d .day) (monthLength (d .year) (d .month)))
 
 -- the zeros for what has no date
 abbrev pub noDate : Date
@@ -23,7 +23,7 @@ unfoldable pub next : Date → Date
 next d =
     cond (ltb (d .day) (monthLength (d .year) (d .month)))
     (date (d .year) (d .month) (d .day + 1))
-    (cond (ltb (d .month) monthsHeld) (date (d .year) (d .month + 1) 1) (date (d .year + 1) 1 1))
+    (cond (ltb (d .month) monthsInYear) (date (d .year) (d .month + 1) 1) (date (d .year + 1) 1 1))
 
 -- the date that counting on day by day, n times, leads to
 unfoldable pub after : ℕ → Date → Date

@@ -4,8 +4,8 @@ use Prim.Native.Nat.{ℕ}
 use lib.Dec.{eqb}
 use Rattle.calendar.specs.Year.{isLeap}
 
-abbrev pub monthsHeld : ℕ
-monthsHeld = 12
+abbrev pub monthsInYear : ℕ
+monthsInYear = 12
 
 -- April, June, September and November
 unfoldable pub hasThirty : ℕ → Bool

@@ -1,8 +1,9 @@
--- 02, request 1: leap years, and "the day numbers on which the years 2000 to 2179 begin".
+-- 02, 1: leap years, and "the day numbers on which the years 2000 to 2179 begin".
 use mathlib.Core.Bool.{Bool, not, cond, _&&_, _||_}
 use Prim.Native.Nat.{ℕ, zero, suc, _+_, _%_}
 use lib.Dec.{eqb}
 
+-- a year divides by k
 abbrev pub divides : ℕ → ℕ → Bool
 divides k year = eqb (year % k) 0
 

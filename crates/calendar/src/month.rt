@@ -2,7 +2,7 @@
 // that a month begins at its twelfth part of them, rounded.
 ghost use mathlib.Core.Path.{_≡_};
 ghost use Prim.Native.Nat.{_<_};
-ghost use Rattle.calendar.specs.Month.{lengthIn, monthsHeld};
+ghost use Rattle.calendar.specs.Month.{lengthIn, monthsInYear};
 ghost use Rattle.calendar.specs.Inner.Placed.{daysBefore, MonthAt, lackingIn, evenDay};
 
 pub(crate) const MONTHS: u16 = 12;
@@ -51,7 +51,7 @@ fn even_day(leap: bool, day: u16) -> u16
 
 // The days of the year before a month, the month counted from 0.
 pub(crate) fn days_before(leap: bool, month: u16) -> u16
-    requires { ⌜ month < monthsHeld ⌝ }
+    requires { ⌜ month < monthsInYear ⌝ }
     ensures { λ r. ⌜ r ≡ daysBefore leap month ⌝ }
 {
     let even = (EVEN_YEAR * month + 5) / MONTHS;
@@ -63,7 +63,7 @@ pub(crate) fn days_before(leap: bool, month: u16) -> u16
 
 // The month that a day of the year falls in, both counted from 0.
 pub(crate) fn month_at(leap: bool, day: u16) -> u16
-    requires { ⌜ day < daysBefore leap monthsHeld ⌝ }
+    requires { ⌜ day < daysBefore leap monthsInYear ⌝ }
     ensures { λ r. ⌜ MonthAt leap day r ⌝ }
 {
     (MONTHS * even_day(leap, day) + 6) / EVEN_YEAR

@@ -6,11 +6,17 @@ use std::str::FromStr;
 /// The day number of a date such as 2000-06-15, or what is wrong with it.
 pub fn day_number(text: &str) -> Result<u16, String> {
     let date = date(text).ok_or_else(|| format!("'{text}' is not a date such as 2000-06-15"))?;
-    day_of(date).ok_or_else(|| match Some(date) {
-        date if date < date_of(1) => format!("{text} is before the first day, 2000-01-01"),
-        date if date > date_of(u16::MAX) => format!("{text} is after the last day, 2179-06-05"),
+    day_of(date).ok_or_else(|| fault(text, date))
+}
+
+/// What is wrong with a date that has no day. 2000 has every day of a year, 29 February too.
+fn fault(text: &str, date: Date) -> String {
+    let is_of_some_year = day_of(Date { year: 2000, ..date }).is_some();
+    match Some(date) {
+        date if is_of_some_year && date < date_of(1) => format!("{text} is before the first day, 2000-01-01"),
+        date if is_of_some_year && date > date_of(u16::MAX) => format!("{text} is after the last day, 2179-06-05"),
         _ => format!("{text} is not in the calendar"),
-    })
+    }
 }
 
 /// Year, month and day of four, two and two digits.

@@ -3,7 +3,7 @@ use mathlib.Core.Bool.{Bool, cond}
 use Prim.Native.Nat.{ℕ, zero, suc, _+_, _-_, _*_, _/_, _≤_, _<_}
 use lib.Dec.{ltb}
 use Rattle.calendar.specs.Year.{yearStart, yearsHeld}
-use Rattle.calendar.specs.Month.{lengthIn, monthsHeld}
+use Rattle.calendar.specs.Month.{lengthIn, monthsInYear}
 
 -- the days of a year before a month, the month counted from 0
 unfoldable pub daysBefore : Bool → ℕ → ℕ
@@ -22,7 +22,7 @@ YearAt day k = Placed yearStart yearsHeld day k
 
 -- the month that a day of the year falls in, both counted from 0
 abbrev pub MonthAt : Bool → ℕ → ℕ → Type 0
-MonthAt leap day m = Placed (daysBefore leap) monthsHeld day m
+MonthAt leap day m = Placed (daysBefore leap) monthsInYear day m
 
 -- ---- by division
 -- the day on which 2101 begins
