@@ -2,10 +2,10 @@
  * `rt staticlib necktureen` writes to target/staticlib: code for x86-64 that needs no other library.
  *
  * A register is NECKTUREEN_REGISTER_BYTES bytes that the caller lends, all zero at first; place p's meter has the
- * NECKTUREEN_AREA_BYTES bytes from NECKTUREEN_AREA_BYTES * p on. Every function but the two of the calendar, which come
- * last, takes the register as a pointer and its length, whatever that is and whatever the bytes are. The first four
- * answer one of the numbers below. A number other than 0 changes no byte of the register and puts zeros in the other
- * fields; 19 and 20 store the held read.
+ * NECKTUREEN_AREA_BYTES bytes from NECKTUREEN_AREA_BYTES * p on. A function that takes a register takes it as a pointer
+ * and its length, whatever that is and whatever the bytes are. Enrol, submit, withdraw and report answer one of the
+ * numbers below. A number other than 0 changes no byte of the register and puts zeros in the other fields; 19 and 20
+ * store the held read.
  *
  * Pointers: a pointer and its length belong together. What is written (register, text, the other fields) is valid, apart
  * from each other and from all else that is lent. No pointer is kept, nothing is allocated, and nothing is remembered

@@ -5,8 +5,8 @@
 use crate::boundary;
 use core::fmt;
 
-/// A calendar date. An earlier one is less. The fields can also be none that the calendar has, as in 2001-02-29:
-/// [`day_of`] finds no day for it.
+/// A calendar date. An earlier one is less. The fields may also name no date of the calendar, as 2001-02-29 does;
+/// [`day_of`] then finds no day.
 #[derive(Clone, Copy, Debug, PartialEq, Eq, PartialOrd, Ord)]
 pub struct Date {
     /// The year, as in 2000.

@@ -65,7 +65,7 @@ numbers! {
     Ef = 18, "EF", "unclear whether the dials turned, and the indicator is not set";
     Low = 19, "low", "the advance is low; the read is held";
     High = 20, "high", "the advance is high; the read is held";
-    Capacity = 21, "capacity", "the advance, taken over the read's year, is not below the meter's capacity";
+    Capacity = 21, "capacity", "the advance, taken over the days of the read's year, is not below the meter's capacity";
     NotStanding = 22, "not standing", "nothing stands with that day and value";
     NotLast = 23, "not last", "it stands, but not last";
     Enrolled = 24, "enrolled", "the area is not all zero";

@@ -75,6 +75,13 @@ fn dates_are_in_the_order_of_days() {
     }
 }
 
+/// The days that the README gives as dates, for a sheet that is made by hand.
+#[test]
+fn the_days_of_the_sheet_have_their_dates() {
+    assert_eq!(date_of(1000), Some(date(2002, 9, 26)));
+    assert_eq!(date_of(1600), Some(date(2004, 5, 18)));
+}
+
 /// The day numbers that document 02 names, and the two ends.
 #[test]
 fn years_begin_on_their_days() {

@@ -1,4 +1,4 @@
-//! The library beside a second writing of document 01: the same random calls to both, every field of every answer and
+//! The library beside a second writing of the papers: the same random calls to both, every field of every answer and
 //! every byte compared.
 //!
 //! `NECKTUREEN_CALLS` sets how many calls are compared and `NECKTUREEN_SEED` which; both are printed. A difference is

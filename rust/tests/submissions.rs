@@ -91,7 +91,8 @@ fn each_refusal_once() {
     let before_the_turn = with_reads(5000, &[(100, b'I', 9400), (280, b'C', 9600), (460, b'C', 9800)]);
     refused(&before_the_turn, Submission { indicator: indicator::FALSE, ..read(640, b'C', 50) }, Number::Ee);
     refused(&register, read(400, b'C', 300), Number::Ef);
-    refused(&with_reads(365, &[(100, b'I', 1000)]), read(110, b'C', 1010), Number::Capacity);
+    // In 2001, a common year: the whole capacity.
+    refused(&with_reads(365, &[(400, b'I', 1000)]), read(410, b'C', 1010), Number::Capacity);
 }
 
 /// A volume query stores the held read, and only its re-read, later in every way equal, is taken for it.
@@ -131,12 +132,15 @@ fn day(year: u16, month: u8, day: u8) -> u16 {
     day_of(Date { year, month, day }).expect("a date of the calendar")
 }
 
-/// A meter of capacity 366 takes so much over ten days and not one more: 9 in a year of 366 days, 10 in one of 365.
-fn takes_at_most(most: u32, day: u16, submitted: u16) {
-    let mut register = with_reads(366, &[(day - 10, b'I', 1000)]);
-    let next = |advance| Submission { submitted, ..read(day, b'C', 1000 + advance) };
-    refused(&register, next(most + 1), Number::Capacity);
-    assert_eq!(submit(&mut register, 0, next(most)), taken(0, most.into()), "day {day}");
+/// A read of a day falls in a year of so many days: a meter of just that capacity takes 9 over ten days and not 10, and
+/// one of a cubic metre more takes 10 and not 11.
+fn has_year(days: u32, day: u16, submitted: u16) {
+    for (capacity, most) in [(days, 9), (days + 1, 10)] {
+        let mut register = with_reads(capacity, &[(day - 10, b'I', 1000)]);
+        let next = |advance| Submission { submitted, ..read(day, b'C', 1000 + advance) };
+        refused(&register, next(most + 1), Number::Capacity);
+        assert_eq!(submit(&mut register, 0, next(most)), taken(0, most.into()), "day {day}, capacity {capacity}");
+    }
 }
 
 /// From its first day to its last, before 29 February and after it.
@@ -145,21 +149,21 @@ fn a_leap_year_has_366_days() {
     for year in [2004, 2096, 2104] {
         for (month, of_month) in [(1, 1), (2, 28), (2, 29), (3, 1), (12, 31)] {
             let day = day(year, month, of_month);
-            takes_at_most(9, day, day);
+            has_year(366, day, day);
         }
     }
     for day in [day(2000, 2, 29), day(2000, 12, 31)] {
-        takes_at_most(9, day, day);
+        has_year(366, day, day);
     }
 }
 
-/// 2100 is none: 36,526 is its first day.
+/// 2100 is one, though it divides by 4.
 #[test]
 fn a_common_year_has_365_days() {
     for year in [2001, 2003, 2005, 2100] {
         for (month, of_month) in [(1, 1), (2, 28), (3, 1), (12, 31)] {
             let day = day(year, month, of_month);
-            takes_at_most(10, day, day);
+            has_year(365, day, day);
         }
     }
 }
@@ -167,23 +171,23 @@ fn a_common_year_has_365_days() {
 /// The reads stand on either side of a year's end, and the later one's year is taken.
 #[test]
 fn the_year_is_that_of_the_later_read() {
-    for (last_day, most, most_after) in [
-        (day(2000, 12, 31), 9, 10),
-        (day(2003, 12, 31), 10, 9),
-        (day(2004, 12, 31), 9, 10),
-        (day(2099, 12, 31), 10, 10),
+    for (last_day, days, days_after) in [
+        (day(2000, 12, 31), 366, 365),
+        (day(2003, 12, 31), 365, 366),
+        (day(2004, 12, 31), 366, 365),
+        (day(2099, 12, 31), 365, 365),
     ] {
-        takes_at_most(most, last_day, last_day);
-        takes_at_most(most_after, last_day + 1, last_day + 1);
+        has_year(days, last_day, last_day);
+        has_year(days_after, last_day + 1, last_day + 1);
     }
 }
 
 /// A read of 31 December that is sent in January is a read of the old year.
 #[test]
 fn the_year_is_not_that_of_the_submission() {
-    takes_at_most(9, day(2004, 12, 31), day(2005, 1, 5));
-    takes_at_most(10, day(2003, 12, 31), day(2004, 1, 5));
-    takes_at_most(10, day(2099, 12, 31), day(2104, 2, 29));
+    has_year(366, day(2004, 12, 31), day(2005, 1, 5));
+    has_year(365, day(2003, 12, 31), day(2004, 1, 5));
+    has_year(365, day(2099, 12, 31), day(2104, 2, 29));
 }
 
 // ---- Other edges ----

@@ -75,6 +75,10 @@ starts k h =
     let b = start-bounds k in
     date-day (yearStart k) (omega arith) (omega arith) ∙ to-year k (yearStart k - 1) (omega arith)
 
+named : (yearStart 0 ≡ 1) × ((yearStart 1 ≡ 367) × ((yearStart 100 ≡ 36526) × (yearStart 101 ≡ 36891)))
+unfolding yearStart yearLength isLeap
+named = (refl, (refl, (refl, refl)))
+
 pub calendar : CalendarHolds
 calendar =
     record {
@@ -86,4 +90,5 @@ calendar =
       last = date-day lastDay (omega arith) (omega arith) ∙ last-counted;
       whole = whole;
       starts = starts;
+      named = named;
     }

@@ -1,5 +1,5 @@
 -- Counting on from 1 January 2000 goes through every year, month by month and day by day, so that the count to a date is the start of its year, the
--- days of the months before and the days of the month before.
+-- days of the months before it and the days before it in its month.
 use mathlib.Core.Path.{_≡_, refl, ap, sym, _∙_}
 use Prim.Native.Nat.{ℕ, zero, suc, _+_, _-_, _≤_, _<_}
 use native.Mathlib.Nat.{add-zero, add-suc}

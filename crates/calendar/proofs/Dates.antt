@@ -45,7 +45,7 @@ day-none d n = of-found (dayOf d) (found-day d)
     of-found day (has j l f) = absurd (n j l (sym (date-some j l) ∙ f))
     of-found day (none _) = refl
 
--- ---- by number: the start of the year, the days of the months before, and those of the month before
+-- ---- by number: the start of the year, the days of the months before, and the days before it in its month
 abbrev pub numberOf : Date → ℕ
 numberOf d = yearStart (d .year - firstYear) + daysBefore (isLeap (d .year)) (d .month - 1) + (d .day - 1)
 

@@ -30,3 +30,5 @@ pub record CalendarHolds : Type 0 where
   pub whole : (d : Date) → isInCalendar d ≡ true → (Earlier d firstDate → ⊥) → (Earlier lastDate d → ⊥) → 1 ≤ dayOf d
   -- the table's rule gives "the day numbers on which the years 2000 to 2179 begin"
   pub starts : (k : ℕ) → k < yearsHeld → dateOf (yearStart k) ≡ date (firstYear + k) 1 1
+  -- "(2000: 1, 2001: 367, 2100: 36526, 2101: 36891)"
+  pub named : (yearStart 0 ≡ 1) × ((yearStart 1 ≡ 367) × ((yearStart 100 ≡ 36526) × (yearStart 101 ≡ 36891)))

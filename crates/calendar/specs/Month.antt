@@ -1,4 +1,4 @@
--- The months of the calendar.
+-- 02, 1: the months of the calendar.
 use mathlib.Core.Bool.{Bool, cond, _||_}
 use Prim.Native.Nat.{ℕ}
 use lib.Dec.{eqb}

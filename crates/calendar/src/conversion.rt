@@ -26,17 +26,17 @@ pub fn date_of(day: u16) -> Date
             day: 0,
         };
     }
-    let since = year_at(day);
-    let year = FIRST_YEAR + since;
+    let years = year_at(day);
+    let year = FIRST_YEAR + years;
     let leap = is_leap(year);
-    let of_year = day - year_start(since);
-    let months = month_at(leap, of_year);
+    let day_of_year = day - year_start(years);
+    let months = month_at(leap, day_of_year);
     let month = (months + 1) as u8;
-    let of_month = (of_year - days_before(leap, months) + 1) as u8;
+    let day_of_month = (day_of_year - days_before(leap, months) + 1) as u8;
     Date {
         year,
         month,
-        day: of_month,
+        day: day_of_month,
     }
 }
 
@@ -50,7 +50,7 @@ fn is_in_calendar(date: Date) -> bool
     ((1 <= month) & ((month as u16) <= MONTHS)) & ((1 <= day) & (day <= most))
 }
 
-// The day of a date; 0 for a date that is not in the calendar or has no day number.
+// The day of a date; 0 for a date that is not in the calendar or has no day number, as those after 5 June 2179, whose number two bytes do not hold.
 pub fn day_of(date: Date) -> u16
     ensures { λ r. ⌜ r ≡ dayOf date ⌝ }
 {
@@ -61,11 +61,11 @@ pub fn day_of(date: Date) -> u16
     if year < FIRST_YEAR {
         return 0;
     }
-    let since = year - FIRST_YEAR;
-    if YEARS <= since {
+    let years = year - FIRST_YEAR;
+    if YEARS <= years {
         return 0;
     }
-    let start = year_start(since) as u32;
+    let start = year_start(years) as u32;
     let before = days_before(is_leap(year), (date.month - 1) as u16) as u32;
     let number = start + before + ((date.day - 1) as u32);
     if LAST_DAY < number {

@@ -191,9 +191,9 @@ const YEAR_STARTS: [u16; 180] = [
 ];
 
 // The day on which a year of the table begins, the year counted from 2000.
-pub(crate) fn year_start(since: u16) -> u16
-    requires { ⌜ since < yearsHeld ⌝ }
-    ensures { λ r. ⌜ r ≡ yearStart since ⌝ }
+pub(crate) fn year_start(years: u16) -> u16
+    requires { ⌜ years < yearsHeld ⌝ }
+    ensures { λ r. ⌜ r ≡ yearStart years ⌝ }
 {
-    YEAR_STARTS[since as usize]
+    YEAR_STARTS[years as usize]
 }

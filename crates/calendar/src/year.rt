@@ -6,8 +6,8 @@ ghost use Rattle.calendar.specs.Date.{dateOf};
 ghost use Rattle.calendar.specs.Inner.Placed.{YearAt, evenDays};
 use crate::starts::FIRST_YEAR;
 
-// The days of four years.
-const FOUR_YEARS: u32 = 1461;
+// One of the four is a leap year.
+const DAYS_IN_FOUR_YEARS: u32 = 1461;
 
 // The day on which 2101 begins.
 const START_OF_2101: u16 = 36891;
@@ -28,7 +28,7 @@ pub fn year_length(year: u16) -> u16
     365
 }
 
-// The days before a day, as if 2100 had a leap day: so each four years have the same days, the first of them one more.
+// The days before a day, as if 2100 were a leap year: then the first of every four years is one.
 fn even_days(day: u16) -> u16
     requires { ⌜ 1 ≤ day ⌝ }
     ensures { λ r. ⌜ r ≡ evenDays day ⌝ }
@@ -39,12 +39,13 @@ fn even_days(day: u16) -> u16
     day
 }
 
-// The year that a day falls in, counted from 2000.
+// The year that a day falls in, counted from 2000. A year is a quarter of the four years' days, rounded up for the first of them, so that the quotient
+// is the year from its first day to its last.
 pub(crate) fn year_at(day: u16) -> u16
     requires { ⌜ 1 ≤ day ⌝ }
     ensures { λ r. ⌜ YearAt day r ⌝ }
 {
-    (4 * (even_days(day) as u32) / FOUR_YEARS) as u16
+    (4 * (even_days(day) as u32) / DAYS_IN_FOUR_YEARS) as u16
 }
 
 // The year of a day's date, and 0 for day 0.

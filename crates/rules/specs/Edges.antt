@@ -72,6 +72,13 @@ from2001 = 367
 abbrev pub from2100 : ℕ
 from2100 = 36526
 
+-- ten days before the last day of 2000 and before the first of 2001
+abbrev pub toDecember31 : ℕ
+toDecember31 = 356
+
+abbrev pub toJanuary1 : ℕ
+toJanuary1 = 357
+
 -- the spacing of all but the last pair, and a capacity that none of them reaches
 abbrev pub halfYear : ℕ
 halfYear = 180
@@ -124,9 +131,9 @@ moreEdges =
     ∷ inTenDays from2000 366 10 overCapacity
     ∷ inTenDays from2001 366 10 accepted
     ∷ inTenDays from2100 366 10 accepted
-    -- it is the day of the read that counts: 31 December 2000 and 1 January 2001
-    ∷ inTenDays 356 366 10 overCapacity
-    ∷ inTenDays 357 366 10 accepted
+    -- it is the day of the read that counts, not that of the one before it: reads of 31 December 2000 and of 1 January 2001
+    ∷ inTenDays toDecember31 366 10 overCapacity
+    ∷ inTenDays toJanuary1 366 10 accepted
     ∷ []
 
 -- the standing reads of a row
@@ -143,7 +150,7 @@ standingReads first spacing (r ∷ rs) =
     }
     ∷ standingReads first spacing rs
 
--- the read that a row submits; it is sent a year late, which none of the rules minds
+-- the read that a row submits. It is sent a year late: no rule minds, and one that took the day of sending for the read's would not hold
 unfoldable pub submittedRead : Edge → Submission
 submittedRead e =
     record {

@@ -1,4 +1,4 @@
--- 01, Volume. R1 and D1 are the submitted value and day, R0 and R-1 the last two standing reads, D0 and D-1 their days.
+-- 01, Volume, with 02, 1. R1 and D1 are the submitted value and day, R0 and R-1 the last two standing reads, D0 and D-1 their days.
 use mathlib.Core.Bool.{Bool, true, not, cond, _&&_}
 use mathlib.Core.List.{[], _∷_}
 use Prim.Native.Nat.{ℕ}

@@ -25,6 +25,10 @@ fn day_at(place: u16) -> u16 {
     DAYS_APART * (place + 1)
 }
 
+fn date_at(place: u16) -> Date {
+    (PEER.date_of)(day_at(place)).expect("a day of the calendar")
+}
+
 impl Made {
     pub fn word(self) -> &'static str {
         match self {
@@ -44,7 +48,7 @@ pub struct Row {
     pub case: &'static str,
     pub entries: usize,
     /// What the call is answered. The journal call, which answers no number, has that of a report, and a call of the
-    /// calendar is accepted if day and date lead to each other.
+    /// calendar is accepted if it is answered as the peer's.
     pub expected: Number,
     pub made: Made,
     /// Where the calls go, one after the other.
@@ -81,10 +85,9 @@ impl Row {
             Made::Report => (side.report)(register, place).number,
             Made::Journal if (side.journal)(register, place).is_empty() => Number::NoMeter,
             Made::Journal => Number::Accepted,
-            Made::DateOf | Made::DayOf => match (side.date_of)(day_at(place)).and_then(side.day_of) {
-                Some(day) if day == day_at(place) => Number::Accepted,
-                _ => Number::Date,
-            },
+            Made::DateOf if (side.date_of)(day_at(place)) == (PEER.date_of)(day_at(place)) => Number::Accepted,
+            Made::DayOf if (side.day_of)(date_at(place)) == Some(day_at(place)) => Number::Accepted,
+            Made::DateOf | Made::DayOf => Number::Date,
         }
     }
 
@@ -110,7 +113,7 @@ impl Row {
                 let _ = black_box((side.date_of)(day_at(place)));
             }),
             Made::DayOf => {
-                let dates: Vec<Date> = self.places.iter().filter_map(|&place| (PEER.date_of)(day_at(place))).collect();
+                let dates: Vec<Date> = (0..64).map(date_at).collect();
                 self.stretches(passes, |_, place| {
                     let _ = black_box((side.day_of)(dates[usize::from(place)]));
                 })

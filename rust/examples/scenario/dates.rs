@@ -9,13 +9,22 @@ pub fn day_number(text: &str) -> Result<u16, String> {
     day_of(date).ok_or_else(|| fault(text, date))
 }
 
-/// What is wrong with a date that has no day. 2000 has every day of a year, 29 February too.
+/// What is wrong with a date that has no day.
 fn fault(text: &str, date: Date) -> String {
-    let is_of_some_year = day_of(Date { year: 2000, ..date }).is_some();
+    let is_in_calendar = day_of(Date { year: alike(date.year), ..date }).is_some();
     match Some(date) {
-        date if is_of_some_year && date < date_of(1) => format!("{text} is before the first day, 2000-01-01"),
-        date if is_of_some_year && date > date_of(u16::MAX) => format!("{text} is after the last day, 2179-06-05"),
+        date if is_in_calendar && date < date_of(1) => format!("{text} is before the first day, 2000-01-01"),
+        date if is_in_calendar && date > date_of(u16::MAX) => format!("{text} is after the last day, 2179-06-05"),
         _ => format!("{text} is not in the calendar"),
+    }
+}
+
+/// A year whose dates all have days, with the same dates as another year.
+fn alike(year: u16) -> u16 {
+    match year {
+        year if year % 400 == 0 => 2000,
+        year if year % 100 == 0 => 2100,
+        year => 2000 + year % 4,
     }
 }
 

@@ -205,7 +205,7 @@ fn opening_read(random: &mut Random, meter: &Meter) -> Read {
     let day = match random.index(8) {
         0 => random.between(1, 65_535),
         1 => random.between(65_000, 65_535),
-        // From 2099 on: 2100 is no leap year.
+        // In 2099 or 2100, which is no leap year.
         2 => random.between(36_161, 36_890),
         _ => random.between(1, 3000),
     };

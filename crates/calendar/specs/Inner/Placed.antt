@@ -29,10 +29,11 @@ MonthAt leap day m = Placed (daysBefore leap) monthsInYear day m
 abbrev pub startOf2101 : ℕ
 startOf2101 = 36891
 
--- the days before a day, as if 2100 had a leap day
+-- the days before a day, as if 2100 were a leap year
 unfoldable pub evenDays : ℕ → ℕ
 evenDays day = cond (ltb day startOf2101) (day - 1) day
 
+-- the year that a day falls in
 abbrev pub yearBy : ℕ → ℕ
 yearBy day = 4 * evenDays day / 1461
 
@@ -44,8 +45,10 @@ lackingIn leap = cond leap 1 2
 unfoldable pub evenDay : Bool → ℕ → ℕ
 evenDay leap day = cond (ltb (day + lackingIn leap) 61) day (day + lackingIn leap)
 
+-- the days of the year before a month
 abbrev pub startBy : Bool → ℕ → ℕ
-startBy leap m = cond (ltb m 2) ((367 * m + 5) / 12) ((367 * m + 5) / 12 - lackingIn leap)
+startBy leap m = cond (ltb m 2) ((367 * m + 5) / monthsInYear) ((367 * m + 5) / monthsInYear - lackingIn leap)
 
+-- the month that a day of the year falls in
 abbrev pub monthBy : Bool → ℕ → ℕ
-monthBy leap day = (12 * evenDay leap day + 6) / 367
+monthBy leap day = (monthsInYear * evenDay leap day + 6) / 367

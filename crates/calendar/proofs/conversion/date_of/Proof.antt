@@ -1,4 +1,4 @@
--- The year and the month that the tables find are those of the day's date.
+-- The year and the month that the divisions find are those of the day's date.
 use mathlib.Core.Path.{_≡_, sym}
 use Prim.Native.Nat.{ℕ, _+_, _-_, _<_}
 use native.Mathlib.Omega.{arith}
@@ -26,8 +26,8 @@ is-leap-requires c κs = search needs
 year-start-requires : tie.Need-year-start-requires
 year-start-requires c κs = search needs
 
-sub-of-year : tie.Need-sub-of-year
-sub-of-year c = search needs
+sub-day-of-year : tie.Need-sub-day-of-year
+sub-day-of-year c = search needs
 
 month-at-requires : tie.Need-month-at-requires
 month-at-requires c κs =
@@ -44,8 +44,8 @@ cast-month c = search needs
 days-before-requires : tie.Need-days-before-requires
 days-before-requires c κs = search needs
 
-sub-of-month : tie.Need-sub-of-month
-sub-of-month c = search needs
+sub-day-of-month : tie.Need-sub-day-of-month
+sub-day-of-month c = search needs
 
 -- what was found of the day, and the month by the year's start and its leap day
 module _ (c : tie.After-days-before) where
@@ -68,11 +68,11 @@ module _ (c : tie.After-days-before) where
   below =
       omega (arith, c .before .before .year-start .ensures, of-month, of-month-below day since (found .year-at .ensures) (omega arith) (c .before .month-at .result) month)
 
-add-of-month : tie.Need-add-of-month
-add-of-month c = omega (arith, below c)
+add-day-of-month : tie.Need-add-day-of-month
+add-day-of-month c = omega (arith, below c)
 
-cast-of-month : tie.Need-cast-of-month
-cast-of-month c = omega (arith, below c)
+cast-day-of-month : tie.Need-cast-day-of-month
+cast-day-of-month c = omega (arith, below c)
 
 returns-2 : tie.Need-returns-2
 returns-2 c =
@@ -88,12 +88,12 @@ date-of-spec =
     add-year
     is-leap-requires
     year-start-requires
-    sub-of-year
+    sub-day-of-year
     month-at-requires
     add-month
     cast-month
     days-before-requires
-    sub-of-month
-    add-of-month
-    cast-of-month
+    sub-day-of-month
+    add-day-of-month
+    cast-day-of-month
     returns-2)

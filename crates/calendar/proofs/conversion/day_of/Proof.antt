@@ -1,4 +1,4 @@
--- A date of the calendar from 2000 on has the number that the tables give, unless that is past the last day; no other date has a day.
+-- A date of the calendar from 2000 on has the number that is added up, unless that is past the last day; no other date has a day.
 use mathlib.Core.Path.{_≡_, sym, _∙_}
 use mathlib.Core.Bool.{true}
 use Prim.Native.Nat.{_+_, _-_}

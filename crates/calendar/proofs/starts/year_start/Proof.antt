@@ -12,7 +12,7 @@ array-read-result c = search needs
 
 returns : tie.Need-returns
 unfolding year-starts
-returns c = year-start-at (c .args .since) (c .pre)
+returns c = year-start-at (c .args .years) (c .pre)
 
 pub year-start-spec : {M : Type 1} → statement M
 year-start-spec = tie.close (tie.spec mul-result array-read-result returns)

@@ -1,4 +1,4 @@
--- A day's date is in the year that the table finds.
+-- A day's date is in the year that the division finds.
 use mathlib.Core.Path.{sym}
 use native.Mathlib.Omega.{arith}
 use borrow.Author.Needs.{needs}
