@@ -137,7 +137,7 @@ fn day(year: u16, month: u8, day: u8) -> u16 {
 fn has_year(days: u32, day: u16, submitted: u16) {
     for (capacity, most) in [(days, 9), (days + 1, 10)] {
         let mut register = with_reads(capacity, &[(day - 10, b'I', 1000)]);
-        let next = |advance| Submission { submitted, ..read(day, b'C', 1000 + advance) };
+        let next = |advance: u32| Submission { submitted, ..read(day, b'C', 1000 + advance) };
         refused(&register, next(most + 1), Number::Capacity);
         assert_eq!(submit(&mut register, 0, next(most)), taken(0, most.into()), "day {day}, capacity {capacity}");
     }
