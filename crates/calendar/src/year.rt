@@ -28,7 +28,8 @@ pub fn year_length(year: u16) -> u16
     365
 }
 
-// The days before a day, as if 2100 were a leap year: then the first of every four years is one.
+// The days before a day, and from 2101 on one more for the leap day that 2100 lacks: so every four years have as many, the first of them one more than
+// the others.
 fn even_days(day: u16) -> u16
     requires { ⌜ 1 ≤ day ⌝ }
     ensures { λ r. ⌜ r ≡ evenDays day ⌝ }

@@ -29,7 +29,7 @@ MonthAt leap day m = Placed (daysBefore leap) monthsInYear day m
 abbrev pub startOf2101 : ℕ
 startOf2101 = 36891
 
--- the days before a day, as if 2100 were a leap year
+-- the days before a day, and from 2101 on one more for the leap day that 2100 lacks
 unfoldable pub evenDays : ℕ → ℕ
 evenDays day = cond (ltb day startOf2101) (day - 1) day
 
