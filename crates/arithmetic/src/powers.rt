@@ -3,7 +3,7 @@ ghost use mathlib.Core.Path.{_≡_};
 ghost use Prim.Native.Nat.{_-_};
 ghost use Rattle.arithmetic.specs.Powers.{tenTo};
 
-const POWERS: [u64; 10] = [
+const POWERS: [u32; 10] = [
     1,
     10,
     100,
@@ -22,7 +22,7 @@ pub fn power(n: u8) -> u64
 {
     let i = n as usize;
     if i < 10 {
-        return POWERS[i];
+        return POWERS[i] as u64;
     }
     0
 }

@@ -19,14 +19,15 @@ use Rattle.terms.specs.Entry.{kindStanding, kindHeld, isStanding, isWithdrawn, 
 use Rattle.rules.specs.Volume.{isLowVolume, isHighVolume, isOverCapacity}
 use Rattle.journal.specs.Journal.{Journal, journalOf, isKept, standing, withdrawn, kept, heldOf, isThere}
 use Rattle.journal.specs.Numbers.{areaRules}
-use Rattle.journal.specs.Sound.{every, any, isInRange, isRead, isFinalRead, hasRead, isApartFrom, areApart, areInOrder, areSound}
+use Rattle.journal.specs.Sound.{every, any, isInRange, isRead, isFinalRead, hasRead, isApartFrom, areApart, carriesRight, areInOrder, areSound}
 use Rattle.journal.specs.Inner.Follow.{isAfter, mayStand, mayFollow}
 use Rattle.journal.proofs.InOrder.{in-order-more}
 use Rattle.calls.specs.Checks.{isWithdrawnRead, isFull, takenFlag, recent, contentRules, sameDayRules, orderRules, indicatorRules, volumeRules, submitChecks}
 use Rattle.calls.specs.Calls.{entryFor, isVolumeQuery}
-use Rattle.calls.proofs.Bools.{both, together, neither, either-of, or-false, left-or, right-or, apart, by-test}
+use Rattle.calls.proofs.Bools.{both, together, neither, either-of, or-false, left-or, right-or, by-test}
 use Rattle.calls.proofs.Passed.{Passed, IsOther, Checked, checked, good-body, known, one-final, may-stand, known-holdable, IsQuery, query-checked, query-exists, is-after}
 use Rattle.calls.proofs.Lists.{none-held, none-held-empty, standing-kept, withdrawn-kept}
+use Rattle.calls.proofs.Carried.{carries-more}
 use Rattle.calls.proofs.Clauses.{kept-sound}
 use Rattle.calls.proofs.Shape.{sounds, kept-at-most}
 
@@ -75,9 +76,12 @@ module _ (s : Submission) (j : Journal) (p : Passed s j) (sound : areSound (j .h
   unfolding isThere
   none = rw (none-held-empty ks (none-held (j .entries)))
 
-  kept-parts : (areInOrder head ks ≡ true) × (areApart (standing ks) (withdrawn ks) ≡ true)
+  kept-parts : (areInOrder head ks ≡ true) × (areApart (standing ks) (withdrawn ks) ≡ true) × (carriesRight head (standing ks) ≡ true)
   unfolding areSound
-  kept-parts = both (areInOrder head ks) (areApart (standing ks) (withdrawn ks)) (kept-sound head (j .entries) sound)
+  kept-parts =
+      let p = both (areInOrder head ks) _ (kept-sound head (j .entries) sound) in
+      let q = both (areApart (standing ks) (withdrawn ks)) (carriesRight head (standing ks)) (p .1) in
+      (p .0, q .0, q .1)
 
   final : (kind : ℕ) → not (isFinalRead (taken kind) && any isFinalRead (standing ks)) ≡ true
   unfolding entryFor
@@ -93,7 +97,9 @@ module _ (s : Submission) (j : Journal) (p : Passed s j) (sound : areSound (j .h
       (good-body s j p kindStanding) none (final kindStanding) refl refl (rw (standing-kept (j .entries)) (may-stand s j p _ refl))
       in
       together (more kindStanding f)
+      (together
       (apart-from-more (taken kindStanding) (standing ks) (withdrawn ks) (rw (withdrawn-kept (j .entries)) (p .fresh)) (kept-parts .1))
+      (carries-more head (taken kindStanding) (standing ks) (kept-parts .2)))
 
   pub may-be-held-sound : IsQuery s (j .head .dials) (takenFlag s j) (recent s j) → areSound head (taken kindHeld ∷ ks) ≡ true
   unfolding areSound those entryFor isStanding isWithdrawn isHeld recentOf
@@ -103,7 +109,7 @@ module _ (s : Submission) (j : Journal) (p : Passed s j) (sound : areSound (j .h
       let f = follow-held head (taken kindHeld) (slotAt (standing ks) 0) (heldOf ks) (any isFinalRead (standing ks))
       (good-body s j p kindHeld) none (final kindHeld) refl refl holdable (rw (standing-kept (j .entries)) after)
       in
-      together (more kindHeld f) (kept-parts .1)
+      together (more kindHeld f) (together (kept-parts .1) (kept-parts .2))
 
 -- ---- by the number of its checks
 pub by-query : (P : ℕ → Type 0) (k : ℕ) → isVolumeQuery k ≡ true → P low → P high → P k

@@ -14,26 +14,30 @@ use Rattle.terms.specs.Rule.{firstBroken}
 use Rattle.terms.specs.Entry.{kindStanding, kindHeld, isStanding, isWithdrawn, isHeld}
 use Rattle.register.specs.declared.head.Head.{Head}
 use Rattle.register.specs.Area.{areaBytes}
+use Rattle.register.specs.Head.{noCarry}
 use Rattle.journal.specs.Journal.{journalOf, standing, withdrawn, heldOf}
-use Rattle.calls.specs.Checks.{takenFlag, enrolChecks, submitChecks, withdrawChecks, reportChecks}
-use Rattle.calls.specs.Calls.{Acted, refused, enrolIn, entryFor, written, isVolumeQuery, submitIn, withdrawIn, reportIn}
+use Rattle.journal.specs.Numbers.{areaRules}
+use Rattle.journal.specs.Sound.{isSound}
+use Rattle.calls.specs.Checks.{takenFlag, enrolChecks, submitChecks, withdrawChecks, reportChecks, isNoFold, foldRules, foldChecks}
+use Rattle.calls.specs.Calls.{Acted, refused, enrolIn, entryFor, written, isVolumeQuery, submitIn, withdrawIn, reportIn, foldIn}
 use Rattle.calls.proofs.Bools.{by-test}
 use Rattle.calls.proofs.Broken.{unbroken}
 use Rattle.calls.proofs.Enrolled.{Enrolled, enrolled}
 use Rattle.calls.proofs.Written.{Written, written-sound, standing-after, withdrawn-after, held-after}
 use Rattle.calls.proofs.Accepted.{by-query, accepted-checked, query-passed, has-room, accepted-sound, query-sound}
 use Rattle.calls.proofs.Withdrawn.{Withdrawn, withdrawal}
+use Rattle.calls.proofs.FoldedArea.{Folded, folded}
 
 -- ---- enrolment
 module _ (plate : Head) (a : List ℕ) where
   abbrev enrolNumber : ℕ
   enrolNumber = firstBroken (enrolChecks plate a)
 
-  pub enrolment : length a ≡ areaBytes → enrolNumber ≡ accepted → Enrolled plate (enrolIn plate a .area)
+  pub enrolment : length a ≡ areaBytes → plate .carried ≡ false → plate .carry ≡ noCarry → enrolNumber ≡ accepted → Enrolled plate (enrolIn plate a .area)
   unfolding enrolIn enrolChecks
-  enrolment size h =
+  enrolment size bare none h =
       let u = unbroken accepted (enrolChecks plate a) refl h in
-      rw (eq-eqb _ _ h) (enrolled plate a size (not-false _ (u .0)) (not-false _ (u .1 .0)))
+      rw (eq-eqb _ _ h) (enrolled plate a size (not-false _ (u .0)) (not-false _ (u .1 .0)) bare none)
 
   pub enrol-refused : eqb enrolNumber accepted ≡ false → enrolIn plate a ≡ refused enrolNumber a
   unfolding enrolIn
@@ -54,16 +58,16 @@ module _ (s : Submission) (a : List ℕ) where
   taken kind = entryFor kind s (takenFlag s (journalOf a))
 
   pub submission : length a ≡ areaBytes → submitNumber ≡ accepted → Written (taken kindStanding) a (submitIn s a .area)
-  unfolding submitIn written
+  unfolding submitIn written entryFor
   submission size h =
       let c = accepted-checked s a h in
-      rw (eq-eqb _ _ h) (written-sound (taken kindStanding) a size (c .sound) (has-room s a c) (accepted-sound s a h))
+      rw (eq-eqb _ _ h) (written-sound (taken kindStanding) a size (c .sound) (has-room s a c) refl (accepted-sound s a h))
 
   pub volume-query : length a ≡ areaBytes → isVolumeQuery submitNumber ≡ true → Written (taken kindHeld) a (submitIn s a .area)
-  unfolding submitIn written
+  unfolding submitIn written entryFor
   volume-query size h =
       let c = query-passed s a h in
-      rw (query-refused submitNumber h, h) (written-sound (taken kindHeld) a size (c .sound) (has-room s a c) (query-sound s a h))
+      rw (query-refused submitNumber h, h) (written-sound (taken kindHeld) a size (c .sound) (has-room s a c) refl (query-sound s a h))
 
   pub submit-refused : eqb submitNumber accepted ≡ false → isVolumeQuery submitNumber ≡ false → submitIn s a ≡ refused submitNumber a
   unfolding submitIn
@@ -117,6 +121,32 @@ module _ (day value : ℕ) (a : List ℕ) where
 
   pub withdraw-unchanged : eqb withdrawNumber accepted ≡ false → withdrawIn day value a .area ≡ a
   withdraw-unchanged h = ap (λ (x : Acted). x .area) (withdraw-refused h)
+
+-- ---- fold
+pub record CanFold (a : List ℕ) : Type 0 where
+  pub sound : isSound a ≡ true
+  pub may : isNoFold (standing (journalOf a .entries)) ≡ false
+
+module _ (a : List ℕ) where
+  abbrev foldNumber : ℕ
+  foldNumber = firstBroken (foldChecks a)
+
+  pub can-fold : foldNumber ≡ accepted → CanFold a
+  unfolding foldChecks areaRules foldRules
+  can-fold h =
+      let u = unbroken accepted (foldChecks a) refl h in
+      record { sound = not-false _ (u .1 .0); may = u .1 .1 .0 }
+
+  pub fold-in : length a ≡ areaBytes → foldNumber ≡ accepted → Folded a (foldIn a .area)
+  unfolding foldIn
+  fold-in size h = let c = can-fold h in rw (eq-eqb _ _ h) (folded a (c .sound) (c .may))
+
+  pub fold-refused : eqb foldNumber accepted ≡ false → foldIn a ≡ refused foldNumber a
+  unfolding foldIn
+  fold-refused h = rw h
+
+  pub fold-unchanged : eqb foldNumber accepted ≡ false → foldIn a .area ≡ a
+  fold-unchanged h = ap (λ (x : Acted). x .area) (fold-refused h)
 
 -- ---- report
 pub report-unchanged : (a : List ℕ) → reportIn a .area ≡ a

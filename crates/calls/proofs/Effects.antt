@@ -1,8 +1,9 @@
 -- What the calls do to the journal of the area that they name, as the theorem about lists uses it.
 use mathlib.Core.Path.{_≡_}
+use mathlib.Core.Logic.{_⊎_}
 use mathlib.Core.Bool.{true, false}
 use mathlib.Core.List.{List, [], _∷_}
-use Prim.Native.Nat.{ℕ, _<_}
+use Prim.Native.Nat.{ℕ, _≤_, _<_}
 use lib.IntN.{negℤ}
 use lib.ListN.{length}
 use Rattle.terms.specs.declared.entry.Entry.{Entry}
@@ -12,15 +13,19 @@ use Rattle.terms.specs.Entry.{kindStanding, slotAt}
 use Rattle.terms.specs.Number.{accepted}
 use Rattle.rules.specs.Volume.{advanceOver}
 use Rattle.register.specs.Area.{areaBytes, allZero}
+use Rattle.register.specs.declared.head.Head.{Head}
+use Rattle.register.specs.Head.{noCarry}
 use Rattle.journal.specs.Journal.{journalOf, standing, withdrawn}
-use Rattle.journal.specs.Sound.{any, hasRead, areApart, isSound}
+use Rattle.journal.specs.Sound.{any, hasRead, daysRise, isSound}
 use Rattle.calls.specs.declared.call.Call.{Call}
-use Rattle.calls.specs.declared.call.Call.the-variants.{Enrol, Submit, Withdraw, Report as ReportCall}
+use Rattle.calls.specs.declared.call.Call.the-variants.{Enrol, Submit, Withdraw, Report as ReportCall, Fold}
 use Rattle.calls.specs.declared.call.Reply.{Reply}
 use Rattle.calls.specs.declared.call.Reply.the-variants.{Answered}
 use Rattle.calls.specs.Checks.{takenFlag}
 use Rattle.calls.specs.Calls.{act, entryFor, submittedAdvance}
+use Rattle.calls.specs.Fold.{headAfter}
 use Rattle.calls.specs.Play.{numberOf, mayChange}
+use Rattle.calls.proofs.Folding.{Four}
 use Rattle.calls.proofs.Totals.{IsFlag}
 
 -- the standing and the withdrawn reads of an area
@@ -30,18 +35,21 @@ standingReads area = standing (journalOf area .entries)
 abbrev pub withdrawnReads : List ℕ → List Entry
 withdrawnReads area = withdrawn (journalOf area .entries)
 
+abbrev pub meterHead : List ℕ → Head
+meterHead area = journalOf area .head
+
 -- an accepted enrolment
 pub record Enrolled (dials : ℕ) (before after : List ℕ) : Type 0 where
   pub zero : allZero before ≡ true
   pub sound : isSound after ≡ true
-  pub dials-are : journalOf after .head .dials ≡ dials
+  pub dials-are : meterHead after .dials ≡ dials
   pub none : standingReads after ≡ []
 
 -- a call that leaves the standing and withdrawn reads: a held read stored
 pub record Held (before after : List ℕ) : Type 0 where
   pub was-sound : isSound before ≡ true
   pub sound : isSound after ≡ true
-  pub dials-are : journalOf after .head .dials ≡ journalOf before .head .dials
+  pub same-head : meterHead after ≡ meterHead before
   pub same-standing : standingReads after ≡ standingReads before
   pub same-withdrawn : withdrawnReads after ≡ withdrawnReads before
 
@@ -49,11 +57,15 @@ pub record Held (before after : List ℕ) : Type 0 where
 pub record Submitted (s : Submission) (before after : List ℕ) (reply : Reply) : Type 0 where
   pub was-sound : isSound before ≡ true
   pub sound : isSound after ≡ true
-  pub dials-are : journalOf after .head .dials ≡ journalOf before .head .dials
+  pub same-head : meterHead after ≡ meterHead before
   pub one-more : standingReads after ≡ entryFor kindStanding s (takenFlag s (journalOf before)) ∷ standingReads before
   pub same-withdrawn : withdrawnReads after ≡ withdrawnReads before
   pub flag : IsFlag (takenFlag s (journalOf before))
   pub first-flag : standingReads before ≡ [] → takenFlag s (journalOf before) ≡ 0
+  -- it is dated, later than the last standing read, and none of the withdrawn ones
+  pub dated : 0 < s .day
+  pub later : (r : Entry) (ss : List Entry) → standingReads before ≡ r ∷ ss → r .day < s .day
+  pub fresh : any (hasRead (s .day) (s .value)) (withdrawnReads before) ≡ false
   pub replied : reply ≡ Answered (answer accepted (takenFlag s (journalOf before)) (submittedAdvance s (journalOf before)))
 
 -- an accepted withdrawal, of the last standing read
@@ -61,21 +73,36 @@ pub record Withdrew (day value : ℕ) (before after : List ℕ) (reply : Reply) 
   pub last : Entry
   pub was-sound : isSound before ≡ true
   pub sound : isSound after ≡ true
-  pub dials-are : journalOf after .head .dials ≡ journalOf before .head .dials
+  pub same-head : meterHead after ≡ meterHead before
   pub one-less : standingReads before ≡ last ∷ standingReads after
   pub names-it : hasRead day value last ≡ true
   pub flag : IsFlag (last .flag)
   pub first-flag : standingReads after ≡ [] → last .flag ≡ 0
   pub keeps : (d v : ℕ) → any (hasRead d v) (withdrawnReads before) ≡ true → any (hasRead d v) (withdrawnReads after) ≡ true
   pub has : any (hasRead day value) (withdrawnReads after) ≡ true
-  pub replied : reply ≡ Answered (answer accepted (last .flag) (negℤ (advanceOver (journalOf before .head .dials) (last .value) (last .flag) (slotAt (standingReads after) 0))))
+  pub replied : reply ≡ Answered (answer accepted (last .flag) (negℤ (advanceOver (meterHead before .dials) (last .value) (last .flag) (slotAt (standingReads after) 0))))
+
+-- an accepted fold
+pub record Folded (before after : List ℕ) : Type 0 where
+  pub was-sound : isSound before ≡ true
+  pub sound : isSound after ≡ true
+  pub head-is : meterHead after ≡ headAfter (journalOf before)
+  -- at least four stood, and the last three stand
+  pub stood : Four (standingReads before)
+  pub stand : standingReads after ≡ stood .newest ∷ stood .second ∷ stood .third ∷ []
+  -- a withdrawn entry that is gone is no later than the oldest of them
+  pub gone : (d v : ℕ) → any (hasRead d v) (withdrawnReads before) ≡ true → (any (hasRead d v) (withdrawnReads after) ≡ true) ⊎ (d ≤ stood .third .day)
 
 -- all of them
 pub record Effects : Type 0 where
   pub apart : (area : List ℕ) → allZero area ≡ true → isSound area ≡ true → ⊥
   pub empty : (area : List ℕ) → allZero area ≡ true → journalOf area .entries ≡ []
-  pub none-clash : (area : List ℕ) → isSound area ≡ true → areApart (standingReads area) (withdrawnReads area) ≡ true
-  pub few-dials : (area : List ℕ) → isSound area ≡ true → journalOf area .head .dials < 10
+  pub few-dials : (area : List ℕ) → isSound area ≡ true → meterHead area .dials < 10
+  -- a head without a carry counts nothing; with one, a read stands; and a sound journal's standing days rise
+  pub bare : (area : List ℕ) → meterHead area .carried ≡ false → meterHead area .carry ≡ noCarry
+  pub unfolded : (area : List ℕ) → allZero area ≡ true → meterHead area .carry .folded ≡ 0
+  pub carried : (area : List ℕ) → isSound area ≡ true → standingReads area ≡ [] → meterHead area .carried ≡ false
+  pub rise : (area : List ℕ) → isSound area ≡ true → daysRise (standingReads area) ≡ true
   pub enrol : (place dials capacity : ℕ) (area : List ℕ) → length area ≡ areaBytes →
       let after = act (Enrol place dials capacity) area in
       numberOf (after .reply) ≡ accepted → Enrolled dials area (after .area)
@@ -88,6 +115,12 @@ pub record Effects : Type 0 where
   pub withdraw : (place day value : ℕ) (area : List ℕ) → length area ≡ areaBytes →
       let after = act (Withdraw place day value) area in
       numberOf (after .reply) ≡ accepted → Withdrew day value area (after .area) (after .reply)
+  pub fold : (place : ℕ) (area : List ℕ) → length area ≡ areaBytes →
+      let after = act (Fold place) area in
+      numberOf (after .reply) ≡ accepted → Folded area (after .area)
+  pub fold-refused : (place : ℕ) (area : List ℕ) →
+      let after = act (Fold place) area in
+      (numberOf (after .reply) ≡ accepted → ⊥) → after .area ≡ area
   pub enrol-refused : (place dials capacity : ℕ) (area : List ℕ) →
       let after = act (Enrol place dials capacity) area in
       (numberOf (after .reply) ≡ accepted → ⊥) → after .area ≡ area

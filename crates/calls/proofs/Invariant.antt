@@ -1,36 +1,38 @@
 -- The invariant of a run at one meter: its area is all zero and nothing was accepted, or it is sound and the ledger says what its journal says.
-use mathlib.Core.Path.{_≡_, refl, sym, ap, ap₂, _∙_}
+use mathlib.Core.Path.{_≡_, refl, sym, ap, _∙_}
 use mathlib.Core.Logic.{_⊎_, inr, ⊎-elim}
-use mathlib.Core.Bool.{true, cond}
-use mathlib.Core.List.{List, [], _∷_}
+use mathlib.Core.Bool.{true, false, cond}
+use mathlib.Core.List.{List, [], _∷_, _++_}
 use Prim.Native.Nat.{ℕ}
 use native.Mathlib.Omega.{arith}
 use borrow.Author.Tests.{eqb-true, eqb-false}
 use lib.Dec.{eqb}
-use lib.IntN.{ℤ, pos, negℤ, _+ℤ_, _-ℤ_, +ℤ-negℤ-cancel, pos-+ℤ-pos}
+use lib.IntN.{ℤ, pos, negℤ}
 use lib.ListN.{length}
-use Rattle.arithmetic.specs.Advance.{advanceOf}
 use Rattle.terms.specs.declared.answer.Answer.{Answer}
-use Rattle.terms.specs.declared.entry.Entry.{Entry}
 use Rattle.terms.specs.declared.submission.Submission.{Submission}
+use Rattle.terms.specs.Answer.{answer}
 use Rattle.terms.specs.Entry.{kindStanding, slotAt}
 use Rattle.terms.specs.Number.{accepted}
 use Rattle.rules.specs.Volume.{advanceOver}
+use Rattle.register.specs.declared.head.Head.{Head}
 use Rattle.register.specs.Area.{areaBytes, allZero}
-use Rattle.journal.specs.Journal.{journalOf, standing, withdrawn}
-use Rattle.journal.specs.Sound.{any, isSound}
+use Rattle.journal.specs.Journal.{journalOf, firstValue}
+use Rattle.journal.specs.Sound.{any, hasRead, isSound}
 use Rattle.calls.specs.declared.call.Call.{Call}
-use Rattle.calls.specs.declared.call.Call.the-variants.{Enrol, Submit, Withdraw, Report as ReportCall}
+use Rattle.calls.specs.declared.call.Call.the-variants.{Enrol, Submit, Withdraw, Report as ReportCall, Fold}
 use Rattle.calls.specs.declared.call.Reply.{Reply}
 use Rattle.calls.specs.Checks.{takenFlag}
-use Rattle.calls.specs.Calls.{act, entryFor, submittedAdvance, flaggedOf, totalOf}
-use Rattle.calls.proofs.Bools.{by-test}
+use Rattle.calls.specs.Calls.{act, entryFor, submittedAdvance}
+use Rattle.journal.specs.Total.{flaggedIn}
 use Rattle.calls.specs.Play.{numberOf, mayChange}
-use Rattle.calls.specs.Ledger.{Named, named, Ledger, takeOut, isAmong, flagOf, entered}
+use Rattle.calls.specs.Ledger.{Named, named, Ledger, takeOut, isAmong, areNoneOf, flagOf, entered}
 use Rattle.calls.specs.DemandThree.{namesOf}
-use Rattle.calls.proofs.Totals.{IsFlag, flagged-more, flagged-none, total-more, total-first}
-use Rattle.calls.proofs.Names.{AreWithdrawn, take-newest, withdrawn-more}
-use Rattle.calls.proofs.Effects.{standingReads, withdrawnReads, Enrolled, Held, Submitted, Withdrew, Effects}
+use Rattle.calls.proofs.Bools.{by-test}
+use Rattle.calls.proofs.Totals.{IsFlag, Bare, flagged-none, first-bare, flagged-bare, folded-bare}
+use Rattle.calls.proofs.Names.{namesRise, read-is, take-newest}
+use Rattle.calls.proofs.Says.{firstNamed, Says, total-none, says-more, says-less, says-folded, standing-was}
+use Rattle.calls.proofs.Effects.{meterHead, standingReads, withdrawnReads, Enrolled, Held, Submitted, Withdrew, Folded, Effects}
 
 -- nothing was accepted yet
 pub record Fresh (area : List ℕ) (l : Ledger) : Type 0 where
@@ -39,15 +41,12 @@ pub record Fresh (area : List ℕ) (l : Ledger) : Type 0 where
   pub advances-are : l .advances ≡ pos 0
   pub flags-are : l .flags ≡ pos 0
   pub withdrawn-is : l .withdrawn ≡ []
+  pub folded-is : l .folded ≡ 0
 
 -- the meter is enrolled
 pub record Live (area : List ℕ) (l : Ledger) : Type 0 where
   pub sound : isSound area ≡ true
-  pub dials-are : journalOf area .head .dials ≡ l .dials
-  pub standing-is : namesOf (standingReads area) ≡ l .standing
-  pub advances-are : l .advances ≡ totalOf (l .dials) (standingReads area)
-  pub flags-are : l .flags ≡ pos (flaggedOf (standingReads area))
-  pub withdrawn-are : AreWithdrawn (l .withdrawn) (withdrawnReads area)
+  pub says : Says (meterHead area) (standingReads area) (withdrawnReads area) l
 
 abbrev pub Good : List ℕ → Ledger → Type 0
 Good area l = Fresh area l ⊎ Live area l
@@ -60,24 +59,6 @@ pub flag-counts : (a : Answer) → IsFlag (a .flag) → flagOf a ≡ pos (a .fla
 unfolding flagOf
 flag-counts a flag = ⊎-elim (λ z. ap counted z ∙ ap pos (sym z)) (λ o. ap counted o ∙ ap pos (sym o)) flag
 
--- ---- the totals of one read more and of one less
-advance-first : (n value flag : ℕ) → advanceOver n value flag (slotAt [] 0) ≡ pos 0
-unfolding advanceOver slotAt
-advance-first n value flag = refl
-
-advance-next : (n value flag : ℕ) (s : Entry) (ss : List Entry) → advanceOver n value flag (slotAt (s ∷ ss) 0) ≡ advanceOf n value flag (s .value)
-unfolding advanceOver slotAt
-advance-next n value flag s ss = refl
-
-total-none : (n : ℕ) → totalOf n [] ≡ pos 0
-unfolding totalOf
-total-none n = refl
-
--- a read after those standing adds its advance
-pub total-after : (n : ℕ) (e : Entry) (ss : List Entry) → IsFlag (e .flag) → (ss ≡ [] → e .flag ≡ 0) → totalOf n (e ∷ ss) ≡ totalOf n ss +ℤ advanceOver n (e .value) (e .flag) (slotAt ss 0)
-total-after n e [] flag first = total-first n e (first refl) ∙ sym (ap₂ _+ℤ_ (total-none n) (advance-first n (e .value) (e .flag)))
-total-after n e (s ∷ ss) flag first = total-more n e s ss flag ∙ ap (λ (z : ℤ). totalOf n (s ∷ ss) +ℤ z) (sym (advance-next n (e .value) (e .flag) s ss))
-
 -- ---- one accepted call
 module _ (effects : Effects) (area : List ℕ) (l : Ledger) where
   -- a sound area is no fresh one
@@ -88,52 +69,53 @@ module _ (effects : Effects) (area : List ℕ) (l : Ledger) where
   fresh zero good = ⊎-elim (λ f. f) (λ g. absurd (effects .apart area zero (g .sound))) good
 
   enrol-good : (place dials capacity : ℕ) (after : List ℕ) (reply : Reply) → Enrolled dials area after → Good area l → Live after (entered (Enrol place dials capacity) reply l)
-  unfolding entered namesOf isAmong
+  unfolding entered namesOf isAmong areNoneOf namesRise firstNamed firstValue
   enrol-good place dials capacity after reply e good =
       let f = fresh (e .zero) good in
+      let head = meterHead after in
+      let uncarried = effects .carried after (e .sound) (e .none) in
+      let bare : Bare head = record { uncarried = uncarried; none = effects .bare after uncarried } in
+      let flagged : flaggedIn head [] ≡ 0 = flagged-bare head [] bare ∙ flagged-none in
+      let folded = folded-bare head bare in
       record {
         sound = e .sound;
-        dials-are = e .dials-are;
-        standing-is = ap namesOf (e .none) ∙ sym (f .standing-is);
-        advances-are = f .advances-are ∙ sym (ap (totalOf dials) (e .none) ∙ total-none dials);
-        flags-are = f .flags-are ∙ sym (ap pos (ap flaggedOf (e .none) ∙ flagged-none));
-        withdrawn-are = λ d v t. absurd (let z : _≡_ {A = ℕ} 0 1 = cc (t, f .withdrawn-is) in let g : ⊥ = omega arith in g);
+        says =
+            rw (e .none)
+            (record {
+              dials-are = e .dials-are;
+              older = [];
+              standing-is = sym (f .standing-is);
+              older-are = sym folded;
+              folded-is = folded ∙ sym (f .folded-is);
+              first-is = ap firstNamed (f .standing-is) ∙ sym (first-bare head [] bare);
+              advances-are = f .advances-are ∙ sym (total-none head);
+              flags-are = f .flags-are ∙ ap pos (sym flagged);
+              rise = ap namesRise (f .standing-is);
+              apart = ap (λ (rs : List Named). areNoneOf rs (l .withdrawn)) (f .standing-is);
+              withdrawn-are = λ d v t. absurd (let z : _≡_ {A = ℕ} 0 1 = cc (t, f .withdrawn-is) in let g : ⊥ = omega arith in g);
+              bare = λ _. bare;
+              stands = λ _. uncarried;
+            });
       }
 
   hold-good : (after : List ℕ) → Held area after → Good area l → Live after l
   hold-good after h good =
       let g = live (h .was-sound) good in
-      record {
-        sound = h .sound;
-        dials-are = h .dials-are ∙ g .dials-are;
-        standing-is = ap namesOf (h .same-standing) ∙ g .standing-is;
-        advances-are = g .advances-are ∙ ap (totalOf (l .dials)) (sym (h .same-standing));
-        flags-are = g .flags-are ∙ ap (λ (ss : List Entry). pos (flaggedOf ss)) (sym (h .same-standing));
-        withdrawn-are = rw (h .same-withdrawn) (g .withdrawn-are);
-      }
+      record { sound = h .sound; says = rw (h .same-head, h .same-standing, h .same-withdrawn) (g .says) }
 
   submit-good : (place : ℕ) (s : Submission) (after : List ℕ) (reply : Reply) → Submitted s area after reply → Good area l → Live after (entered (Submit place s) reply l)
-  unfolding entered namesOf entryFor submittedAdvance
+  unfolding entered entryFor submittedAdvance
   submit-good place s after reply u good =
       let g = live (u .was-sound) good in
       let f = takenFlag s (journalOf area) in
       let e = entryFor kindStanding s f in
-      let ss = standingReads area in
       let a : ℤ = submittedAdvance s (journalOf area) in
-      let more : a ≡ advanceOver (l .dials) (s .value) f (slotAt ss 0) = ap (λ (n : ℕ). advanceOver n (s .value) f (slotAt ss 0)) (g .dials-are) in
-      rw (u .replied)
+      rw (u .replied, flag-counts (answer accepted f a) (u .flag))
       (record {
         sound = u .sound;
-        dials-are = u .dials-are ∙ g .dials-are;
-        standing-is = ap namesOf (u .one-more) ∙ ap (λ (rs : List Named). named (s .day) (s .value) ∷ rs) (g .standing-is);
-        advances-are =
-            ap₂ _+ℤ_ (g .advances-are) more
-            ∙ sym (ap (totalOf (l .dials)) (u .one-more) ∙ total-after (l .dials) e ss (u .flag) (u .first-flag));
-        flags-are =
-            ap₂ _+ℤ_ (g .flags-are) (flag-counts (record { number = accepted; flag = f; advance = a }) (u .flag))
-            ∙ pos-+ℤ-pos (flaggedOf ss) f
-            ∙ sym (ap pos (ap flaggedOf (u .one-more) ∙ flagged-more e ss (u .flag)));
-        withdrawn-are = rw (u .same-withdrawn) (g .withdrawn-are);
+        says =
+            rw (u .same-head, u .one-more, u .same-withdrawn)
+            (says-more (meterHead area) (standingReads area) (withdrawnReads area) l (g .says) e (u .flag) (u .first-flag) a refl (u .dated) (u .later) (u .fresh) (effects .rise area (u .was-sound)));
       })
 
   withdraw-good : (place day value : ℕ) (after : List ℕ) (reply : Reply) → Withdrew day value area after reply → Good area l → Live after (entered (Withdraw place day value) reply l)
@@ -142,27 +124,30 @@ module _ (effects : Effects) (area : List ℕ) (l : Ledger) where
       let g = live (w .was-sound) good in
       let e = w .last in
       let ss = standingReads after in
-      let n = l .dials in
-      let a : ℤ = advanceOver (journalOf area .head .dials) (e .value) (e .flag) (slotAt ss 0) in
-      let less : a ≡ advanceOver n (e .value) (e .flag) (slotAt ss 0) = ap (λ (m : ℕ). advanceOver m (e .value) (e .flag) (slotAt ss 0)) (g .dials-are) in
-      let total : totalOf n (standingReads area) ≡ totalOf n ss +ℤ a =
-      ap (totalOf n) (w .one-less) ∙ total-after n e ss (w .flag) (w .first-flag) ∙ ap (λ (z : ℤ). totalOf n ss +ℤ z) (sym less)
+      let head = meterHead area in
+      let named-is = read-is day value e (w .names-it) in
+      let a : ℤ = advanceOver (head .dials) (e .value) (e .flag) (slotAt ss 0) in
+      let before : Says head (e ∷ ss) (withdrawnReads area) l = rw (w .one-less) at (g .says) in
+      let stands : ss ≡ [] → head .carried ≡ false = λ none. ap (λ (h : Head). h .carried) (sym (w .same-head)) ∙ effects .carried after (w .sound) none in
+      let has : any (hasRead (e .day) (e .value)) (withdrawnReads after) ≡ true = rw (named-is .0, named-is .1) (w .has) in
+      let left : takeOut (named day value) (l .standing) ≡ namesOf ss ++ before .older =
+      ap (takeOut (named day value)) (sym (standing-was head e ss (withdrawnReads area) (withdrawnReads after) l before (w .flag) stands (w .first-flag)))
+      ∙ take-newest day value e (namesOf ss ++ before .older) (w .names-it)
       in
-      let flagged : pos (flaggedOf (standingReads area)) ≡ pos (flaggedOf ss) +ℤ pos (e .flag) =
-      ap pos (ap flaggedOf (w .one-less) ∙ flagged-more e ss (w .flag)) ∙ sym (pos-+ℤ-pos (flaggedOf ss) (e .flag))
-      in
-      rw (w .replied)
+      rw (w .replied, flag-counts (answer accepted (e .flag) (negℤ a)) (w .flag), left, ← named-is .0, ← named-is .1)
       (record {
         sound = w .sound;
-        dials-are = w .dials-are ∙ g .dials-are;
-        standing-is =
-            sym (ap (takeOut (named day value)) (sym (g .standing-is) ∙ ap namesOf (w .one-less)) ∙ take-newest day value e ss (w .names-it));
-        advances-are = ap (λ (z : ℤ). z +ℤ negℤ a) (g .advances-are ∙ total) ∙ +ℤ-negℤ-cancel (totalOf n ss) a;
-        flags-are =
-            ap₂ _-ℤ_ (g .flags-are ∙ flagged) (flag-counts (record { number = accepted; flag = e .flag; advance = negℤ a }) (w .flag))
-            ∙ +ℤ-negℤ-cancel (pos (flaggedOf ss)) (pos (e .flag));
-        withdrawn-are = withdrawn-more day value (l .withdrawn) (withdrawnReads area) (withdrawnReads after) (g .withdrawn-are) (w .keeps) (w .has);
+        says = rw (w .same-head) (says-less head e ss (withdrawnReads area) (withdrawnReads after) l before (w .flag) stands (w .first-flag) a refl (w .keeps) has);
       })
+
+  fold-good : (place : ℕ) (after : List ℕ) (reply : Reply) → Folded area after → Good area l → Live after (entered (Fold place) reply l)
+  unfolding entered
+  fold-good place after reply f good =
+      let g = live (f .was-sound) good in
+      record {
+        sound = f .sound;
+        says = rw (f .head-is, f .stand) (says-folded (journalOf area) (withdrawnReads after) l (f .stood) (g .says) (effects .rise area (f .was-sound)) (f .gone));
+      }
 
   -- ---- any call, accepted or not
   abbrev Next : Call → Type 0
@@ -206,3 +191,7 @@ module _ (effects : Effects) (area : List ℕ) (l : Ledger) where
       by-answer (ReportCall place)
       (λ h. unchanged-good _ (effects .report place area) good)
       (λ h. unchanged-good _ (effects .report place area) good)
+  call-good (Fold place) size good =
+      by-answer (Fold place)
+      (λ h. inr (fold-good place _ (act (Fold place) area .reply) (effects .fold place area size h) good))
+      (λ h. unchanged-good _ (effects .fold-refused place area h) good)

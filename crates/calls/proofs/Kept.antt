@@ -1,5 +1,5 @@
 -- Every call leaves an area that is zero or sound, where it found one.
-use mathlib.Core.Path.{_≡_}
+use mathlib.Core.Path.{_≡_, refl}
 use mathlib.Core.Bool.{true, false}
 use mathlib.Core.List.{List}
 use Prim.Native.Nat.{ℕ}
@@ -9,16 +9,15 @@ use lib.ListN.{length}
 use Rattle.terms.specs.declared.submission.Submission.{Submission}
 use Rattle.terms.specs.Number.{accepted}
 use Rattle.terms.specs.Rule.{firstBroken}
-use Rattle.register.specs.declared.head.Head.{Head}
 use Rattle.register.specs.Area.{areaBytes, allZero}
 use Rattle.journal.specs.Sound.{isSound}
 use Rattle.calls.specs.declared.call.Call.{Call}
-use Rattle.calls.specs.declared.call.Call.the-variants.{Enrol, Submit, Withdraw, Report as ReportCall}
-use Rattle.calls.specs.Checks.{enrolChecks, submitChecks, withdrawChecks}
-use Rattle.calls.specs.Calls.{isVolumeQuery, plateOf, enrolIn, submitIn, withdrawIn, act}
+use Rattle.calls.specs.declared.call.Call.the-variants.{Enrol, Submit, Withdraw, Report as ReportCall, Fold}
+use Rattle.calls.specs.Checks.{enrolChecks, submitChecks, withdrawChecks, foldChecks}
+use Rattle.calls.specs.Calls.{isVolumeQuery, plateOf, enrolIn, submitIn, withdrawIn, foldIn, act}
 use Rattle.calls.specs.Kept.{isGood}
 use Rattle.calls.proofs.Bools.{right-or, by-test}
-use Rattle.calls.proofs.Acted.{enrolment, enrol-unchanged, submission, volume-query, submit-unchanged, withdrawal-in, withdraw-unchanged, report-unchanged}
+use Rattle.calls.proofs.Acted.{enrolment, enrol-unchanged, submission, volume-query, submit-unchanged, withdrawal-in, withdraw-unchanged, report-unchanged, fold-in, fold-unchanged}
 
 pub record GoodArea (a : List ℕ) : Type 0 where
   pub size : length a ≡ areaBytes
@@ -36,10 +35,11 @@ by-number : {X : Type 0} (number : ℕ) → (number ≡ accepted → X) → (eqb
 by-number number f g = by-test (eqb number accepted) (λ h. f (eqb-true number accepted h)) g
 
 module _ (a : List ℕ) (g : GoodArea a) where
-  enrol-keeps : (plate : Head) → GoodArea (enrolIn plate a .area)
-  enrol-keeps plate =
+  enrol-keeps : (dials capacity : ℕ) → GoodArea (enrolIn (plateOf dials capacity) a .area)
+  enrol-keeps dials capacity =
+      let plate = plateOf dials capacity in
       by-number (firstBroken (enrolChecks plate a))
-      (λ h. let w = enrolment plate a (g .size) h in good-sound (w .size) (w .sound))
+      (λ h. let w = enrolment plate a (g .size) refl refl h in good-sound (w .size) (w .sound))
       (λ h. good-same (enrol-unchanged plate a h) g)
 
   submit-keeps : (s : Submission) → GoodArea (submitIn s a .area)
@@ -57,9 +57,16 @@ module _ (a : List ℕ) (g : GoodArea a) where
       (λ h. let w = withdrawal-in day value a (g .size) h in good-sound (w .size) (w .sound))
       (λ h. good-same (withdraw-unchanged day value a h) g)
 
+  fold-keeps : GoodArea (foldIn a .area)
+  fold-keeps =
+      by-number (firstBroken (foldChecks a))
+      (λ h. let w = fold-in a (g .size) h in good-sound (w .size) (w .sound))
+      (λ h. good-same (fold-unchanged a h) g)
+
 pub keeps : (call : Call) (a : List ℕ) → GoodArea a → GoodArea (act call a .area)
 unfolding act
-keeps (Enrol place dials capacity) a g = enrol-keeps a g (plateOf dials capacity)
+keeps (Enrol place dials capacity) a g = enrol-keeps a g dials capacity
 keeps (Submit place read) a g = submit-keeps a g read
 keeps (Withdraw place day value) a g = withdraw-keeps a g day value
 keeps (ReportCall place) a g = good-same (report-unchanged a) g
+keeps (Fold place) a g = fold-keeps a g

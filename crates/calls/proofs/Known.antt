@@ -14,7 +14,7 @@ use Rattle.terms.specs.declared.entry.Entry.{Entry}
 use Rattle.terms.specs.declared.entry.Slot.{Slot}
 use Rattle.terms.specs.declared.entry.Slot.the-variants.{Read, Empty}
 use Rattle.terms.specs.declared.submission.Submission.{Submission}
-use Rattle.terms.specs.Entry.{those, kindMeter, indicatorNotSet, indicatorTrue, isStanding, isWithdrawn, isHeld, slotAt}
+use Rattle.terms.specs.Entry.{those, kindMeter, kindCarry, indicatorNotSet, indicatorTrue, isStanding, isWithdrawn, isHeld, slotAt}
 use Rattle.terms.specs.Letter.{isOpening}
 use Rattle.terms.specs.Answer.{answer}
 use Rattle.terms.specs.Number.{accepted}
@@ -23,14 +23,16 @@ use Rattle.terms.specs.Rule.{firstBroken}
 use Rattle.register.specs.Area.{areaBytes, allZero}
 use Rattle.register.specs.Bytes.{byteAt}
 use Rattle.register.specs.Entries.{entryStart}
-use Rattle.register.specs.Head.{headOf, headBytes, bodyOf}
+use Rattle.register.specs.Head.{meterBytes, isCarryAt, noCarry, headOf, headBytes, bodyOf}
+use Rattle.register.proofs.Heads.{bare-carry}
 use Rattle.journal.specs.Journal.{Journal, journalOf, entriesTo, standing}
 use Rattle.journal.specs.Sound.{every, leastDials, mostDials, isHead, isPlate, holds, takes, opens, isInRange, isRead, opensRight, isSound}
 use Rattle.calls.specs.declared.call.Call.{Call}
-use Rattle.calls.specs.declared.call.Call.the-variants.{Enrol, Submit, Withdraw, Report as ReportCall}
+use Rattle.calls.specs.declared.call.Call.the-variants.{Enrol, Submit, Withdraw, Report as ReportCall, Fold}
 use Rattle.calls.specs.declared.call.Reply.the-variants.{Answered}
-use Rattle.calls.specs.Checks.{enrolChecks, submitChecks, withdrawChecks}
-use Rattle.calls.specs.Calls.{act, Acted, plateOf, entryFor, enrolIn, submitIn, withdrawIn, withdrawnAnswer, isVolumeQuery}
+use Rattle.calls.specs.Checks.{enrolChecks, submitChecks, withdrawChecks, foldChecks}
+use Rattle.calls.specs.Calls.{act, Acted, plateOf, entryFor, enrolIn, submitIn, withdrawIn, withdrawnAnswer, isVolumeQuery, foldIn}
+use Rattle.calls.specs.Fold.{foldedJournal}
 use Rattle.calls.proofs.Bools.{both, neither, by-test}
 use Rattle.calls.proofs.Broken.{unbroken}
 use Rattle.calls.proofs.Zeros.{zero-at, zero-drop}
@@ -39,11 +41,14 @@ use Rattle.calls.proofs.Clauses.{Clauses, clauses-of}
 use Rattle.calls.proofs.Shape.{sounds, entries-are}
 use Rattle.calls.proofs.Accepted.{accepted-checked, query-passed}
 use Rattle.calls.proofs.Withdrawn.{can-withdraw, now-withdrawn, still-withdrawn}
-use Rattle.calls.proofs.Acted.{enrolment, enrol-unchanged, submission, volume-query, submit-unchanged, accepted-standing, accepted-withdrawn, query-standing, query-withdrawn, withdrawal-in, withdraw-unchanged, report-unchanged}
+use Rattle.calls.proofs.Acted.{enrolment, enrol-unchanged, submission, volume-query, submit-unchanged, accepted-standing, accepted-withdrawn, query-standing, query-withdrawn, withdrawal-in, withdraw-unchanged, report-unchanged, can-fold, fold-in, fold-unchanged}
+use Rattle.calls.proofs.FoldedArea.{stood, folded-standing, folded-withdrawn}
+use Rattle.calls.proofs.Carried.{none-uncarried}
+use Rattle.calls.proofs.Passed.{read-dated, read-later, read-fresh}
 use Rattle.calls.specs.Play.{numberOf, mayChange}
 use Rattle.calls.proofs.Frame.{Local}
 use Rattle.calls.proofs.Totals.{IsFlag}
-use Rattle.calls.proofs.Effects.{standingReads, Enrolled, Held, Submitted, Withdrew, Effects}
+use Rattle.calls.proofs.Effects.{standingReads, Enrolled, Held, Submitted, Withdrew, Folded, Effects}
 
 -- ---- a flag of at most 1
 small : (f : ℕ) → f ≤ 1 → IsFlag f
@@ -94,11 +99,16 @@ module _ (area : List ℕ) (sound : isSound area ≡ true) where
     unfolding isRead
     newest-flag = small (e .flag) (leb-true (e .flag) 1 (flag-bound head e (both (isStanding e || (isWithdrawn e || isHeld e)) (isInRange head e) newest-read .1)))
 
-    only-flag : ss ≡ [] → e .flag ≡ 0
-    unfolding opensRight opens
-    only-flag none =
-        let opens : opensRight head (e ∷ []) ≡ true = rw (stands, none) at (clauses .opens) in
+    -- the only read of a meter without a carry has no flag
+    only-flag : journalOf area .head .carried ≡ false → ss ≡ [] → e .flag ≡ 0
+    unfolding opensRight opens journalOf
+    only-flag bare none =
+        let opens : isOpening (e .letter) && eqb (e .flag) 0 ≡ true = rw (stands, none, bare) at (clauses .opens) in
         eqb-true (e .flag) 0 (both (isOpening (e .letter)) (eqb (e .flag) 0) opens .1)
+
+  none-carried : standingReads area ≡ [] → journalOf area .head .carried ≡ false
+  unfolding journalOf
+  none-carried none = none-uncarried head (rw none at (clauses .carry))
 
 -- ---- the number that a call answers is that of its checks
 module _ (plate : Head) (area : List ℕ) where
@@ -136,13 +146,21 @@ module _ (day value : ℕ) (area : List ℕ) where
       (λ h. rw h (answer-number (journalOf area .head .dials) _ _ ∙ sym (eqb-true withdrawNumber accepted h)))
       (λ h. rw h)
 
+module _ (area : List ℕ) where
+  abbrev foldNumber : ℕ
+  foldNumber = firstBroken (foldChecks area)
+
+  pub fold-number : numberOf (foldIn area .reply) ≡ foldNumber
+  unfolding foldIn numberOf
+  fold-number = by-test (eqb foldNumber accepted) (λ h. rw h (sym (eqb-true foldNumber accepted h))) (λ h. rw h)
+
 -- ---- what the accepted calls do
 module _ (place dials capacity : ℕ) (area : List ℕ) (size : length area ≡ areaBytes) where
   known-enrol : numberOf (act (Enrol place dials capacity) area .reply) ≡ accepted → Enrolled dials area (act (Enrol place dials capacity) area .area)
   unfolding act those enrolChecks
   known-enrol h =
       let number : enrolNumber (plateOf dials capacity) area ≡ accepted = sym (enrol-number (plateOf dials capacity) area) ∙ h in
-      let e = enrolment (plateOf dials capacity) area size number in
+      let e = enrolment (plateOf dials capacity) area size refl refl number in
       let u = unbroken accepted (enrolChecks (plateOf dials capacity) area) refl number in
       record {
         zero = not-false (allZero area) (u .0);
@@ -161,14 +179,19 @@ module _ (place : ℕ) (s : Submission) (area : List ℕ) (size : length area �
       let number : submitNumber s area ≡ accepted = sym (submit-number s area) ∙ h in
       let w = submission s area size number in
       let more = accepted-standing s area size number in
+      let sound = accepted-checked s area number .sound in
+      let passed = accepted-checked s area number .passed in
       record {
-        was-sound = accepted-checked s area number .sound;
+        was-sound = sound;
         sound = w .sound;
-        dials-are = ap (λ (j : Journal). j .head .dials) (w .journal);
+        same-head = ap (λ (j : Journal). j .head) (w .journal);
         one-more = more;
         same-withdrawn = accepted-withdrawn s area size number;
         flag = newest-flag (after .area) (w .sound) _ _ more;
-        first-flag = only-flag (after .area) (w .sound) _ _ more;
+        first-flag = λ none. only-flag (after .area) (w .sound) _ _ more (ap (λ (j : Journal). j .head .carried) (w .journal) ∙ none-carried area sound none) none;
+        dated = read-dated s (journalOf area) passed;
+        later = λ r ss are. read-later s (journalOf area) passed r ss are;
+        fresh = read-fresh s (journalOf area) passed;
         replied = rw (eq-eqb (submitNumber s area) accepted number);
       }
 
@@ -181,7 +204,7 @@ module _ (place : ℕ) (s : Submission) (area : List ℕ) (size : length area �
       record {
         was-sound = query-passed s area query .sound;
         sound = w .sound;
-        dials-are = ap (λ (j : Journal). j .head .dials) (w .journal);
+        same-head = ap (λ (j : Journal). j .head) (w .journal);
         same-standing = query-standing s area size query;
         same-withdrawn = query-withdrawn s area size query;
       }
@@ -208,14 +231,30 @@ module _ (place day value : ℕ) (area : List ℕ) (size : length area ≡ areaB
         last = w .read;
         was-sound = sound;
         sound = w .sound;
-        dials-are = ap (λ (j : Journal). j .head .dials) (w .journal);
+        same-head = ap (λ (j : Journal). j .head) (w .journal);
         one-less = w .stood;
         names-it = w .named;
         flag = newest-flag area sound (w .read) _ (w .stood);
-        first-flag = only-flag area sound (w .read) _ (w .stood);
+        first-flag = λ none. only-flag area sound (w .read) _ (w .stood) (ap (λ (j : Journal). j .head .carried) (sym (w .journal)) ∙ none-carried _ (w .sound) none) none;
         keeps = still-withdrawn day value area _ w;
         has = now-withdrawn day value area _ w;
         replied = withdraw-reply number ∙ ap Answered (last-answer (w .read) (w .stood));
+      }
+
+module _ (place : ℕ) (area : List ℕ) (size : length area ≡ areaBytes) where
+  known-fold : numberOf (act (Fold place) area .reply) ≡ accepted → Folded area (act (Fold place) area .area)
+  unfolding act foldedJournal
+  known-fold h =
+      let number : foldNumber area ≡ accepted = sym (fold-number area) ∙ h in
+      let w = fold-in area size number in
+      let c = can-fold area number in
+      record {
+        was-sound = c .sound;
+        sound = w .sound;
+        head-is = ap (λ (j : Journal). j .head) (w .journal);
+        stood = stood area _ (c .sound) (c .may) w;
+        stand = folded-standing area _ (c .sound) (c .may) w;
+        gone = folded-withdrawn area _ (c .sound) (c .may) w;
       }
 
 -- ---- all of them
@@ -246,7 +285,7 @@ size-after : (call : Call) (area : List ℕ) → length area ≡ areaBytes → l
 unfolding act
 size-after (Enrol place dials capacity) area size =
     by-test (eqb (enrolNumber (plateOf dials capacity) area) accepted)
-    (λ h. enrolment (plateOf dials capacity) area size (eqb-true _ _ h) .size)
+    (λ h. enrolment (plateOf dials capacity) area size refl refl (eqb-true _ _ h) .size)
     (λ h. kept-size (enrol-unchanged (plateOf dials capacity) area h) size)
 size-after (Submit place s) area size =
     by-test (eqb (submitNumber s area) accepted)
@@ -260,6 +299,21 @@ size-after (Withdraw place day value) area size =
     (λ h. withdrawal-in day value area size (eqb-true _ _ h) .size)
     (λ h. kept-size (withdraw-unchanged day value area h) size)
 size-after (ReportCall place) area size = kept-size (report-unchanged area) size
+size-after (Fold place) area size =
+    by-test (eqb (foldNumber area) accepted)
+    (λ h. fold-in area size (eqb-true _ _ h) .size)
+    (λ h. kept-size (fold-unchanged area h) size)
+
+bare-head : (area : List ℕ) → journalOf area .head .carried ≡ false → journalOf area .head .carry ≡ noCarry
+unfolding journalOf
+bare-head area h = bare-carry area h
+
+-- an area of zeros has no carry
+zero-unfolded : (area : List ℕ) → allZero area ≡ true → journalOf area .head .carry .folded ≡ 0
+unfolding journalOf headOf isCarryAt noCarry
+zero-unfolded area zero =
+    let none : isCarryAt area meterBytes ≡ false = ap (λ (k : ℕ). eqb k kindCarry) (zero-at area meterBytes zero) in
+    rw none
 
 pub effects : Effects
 unfolding act
@@ -267,12 +321,17 @@ effects =
     record {
       apart = λ area zero sound. not-zero area sound zero;
       empty = empty-entries;
-      none-clash = λ area sound. clauses area sound .apart;
       few-dials = dials-few;
+      bare = bare-head;
+      unfolded = zero-unfolded;
+      carried = none-carried;
+      rise = λ area sound. clauses area sound .rise;
       enrol = known-enrol;
       submit = known-submit;
       hold = known-hold;
       withdraw = known-withdraw;
+      fold = known-fold;
+      fold-refused = λ place area h. fold-unchanged area (by-number _ (fold-number area) h);
       enrol-refused = λ place dials capacity area h. enrol-unchanged (plateOf dials capacity) area (by-number _ (enrol-number (plateOf dials capacity) area) h);
       submit-refused = λ place s area h. submit-left s area h;
       withdraw-refused = λ place day value area h. withdraw-unchanged day value area (by-number _ (withdraw-number day value area) h);
@@ -290,6 +349,7 @@ unchanged (Enrol place dials capacity) area h = effects .enrol-refused place dia
 unchanged (Submit place s) area h = effects .submit-refused place s area h
 unchanged (Withdraw place day value) area h = effects .withdraw-refused place day value area (never-accepted _ h)
 unchanged (ReportCall place) area h = effects .report place area
+unchanged (Fold place) area h = effects .fold-refused place area (never-accepted _ h)
 
 pub local : Local
 local = record { size = effects .size; unchanged = unchanged }

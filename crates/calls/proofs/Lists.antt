@@ -9,7 +9,7 @@ use lib.ListN.{length}
 use Rattle.register.specs.declared.head.Head.{Head}
 use Rattle.terms.specs.declared.entry.Entry.{Entry}
 use Rattle.terms.specs.declared.entry.Slot.the-variants.{Empty}
-use Rattle.terms.specs.Entry.{kindStanding, kindWithdrawn, kindHeld, isStanding, isWithdrawn, isHeld, keepIf, those}
+use Rattle.terms.specs.Entry.{kindStanding, kindWithdrawn, kindHeld, kindCarry, isStanding, isWithdrawn, isHeld, keepIf, those}
 use Rattle.journal.specs.Journal.{isKept, standing, withdrawn, kept, slotIf, heldOf, isThere}
 use Rattle.journal.specs.Sound.{every, any, isInRange, isRead, isHeldRight}
 use Rattle.calls.proofs.Bools.{both, together, neither, or-false, left-or, right-or, apart, by-test}
@@ -45,6 +45,9 @@ other-kinds k h = rw (eqb-true k kindHeld h)
 some-kind : (k : ℕ) → eqb k kindStanding || (eqb k kindWithdrawn || eqb k kindHeld) ≡ true → eqb k 0 ≡ false
 some-kind k h = by-test (eqb k 0) (λ z. absurd (apart (rw (eqb-true k 0 z) at h) refl)) (λ z. z)
 
+other-carry : (k : ℕ) → eqb k kindStanding || (eqb k kindWithdrawn || eqb k kindHeld) ≡ true → eqb k kindCarry ≡ false
+other-carry k h = by-test (eqb k kindCarry) (λ z. absurd (apart (rw (eqb-true k kindCarry z) at h) refl)) (λ z. z)
+
 last-or : (x y : Bool) → x || (y || false) ≡ true → x || y ≡ true
 last-or true y h = refl
 last-or false true h = refl
@@ -59,6 +62,11 @@ module _ (head : Head) (e : Entry) (h : isRead head e ≡ true) where
   pub has-kind : eqb (e .kind) 0 ≡ false
   unfolding isStanding isWithdrawn isHeld
   has-kind = some-kind (e .kind) kinds
+
+  -- which is no carry's
+  pub no-carry-kind : eqb (e .kind) kindCarry ≡ false
+  unfolding isStanding isWithdrawn isHeld
+  no-carry-kind = other-carry (e .kind) kinds
 
   held-other : isHeld e ≡ true → isKept e ≡ false
   unfolding isStanding isWithdrawn isHeld

@@ -11,7 +11,7 @@ use Rattle.terms.specs.declared.entry.Entry.{Entry}
 use Rattle.terms.specs.Entry.{kindStanding, kindWithdrawn, isStanding, isWithdrawn, isHeld, keepIf, those}
 use Rattle.terms.specs.Letter.{isOpening}
 use Rattle.journal.specs.Journal.{isKept, standing, withdrawn, newestAt}
-use Rattle.journal.specs.Sound.{every, any, isInRange, isRead, daysRise, opensRight, isFinalRead, hasOneFinal, hasRead, isApartFrom, areApart, isHeldRight, isLater, areSound}
+use Rattle.journal.specs.Sound.{every, any, isInRange, isRead, daysRise, opensRight, isFinalRead, hasOneFinal, hasRead, isApartFrom, areApart, carriesRight, isHeldRight, isLater, areSound}
 use Rattle.journal.proofs.Entries.{any-kept}
 use Rattle.calls.proofs.Bools.{both, together, neither, or-false, apart, by-test}
 use Rattle.calls.proofs.Lists.{none-held-right, rest-kept}
@@ -145,7 +145,7 @@ older-days day value s (t ∷ ss) h l =
     let g : t .day < s .day = ltb-true _ _ (h' .0) in
     rw (ne-eqb (t .day) day (omega arith)) (older-days day value t ss (h' .1) (omega arith))
 
-every-weaker : (p q : Entry → Bool) → ((e : Entry) → p e ≡ true → q e ≡ true) → (es : List Entry) → every p es ≡ true → every q es ≡ true
+pub every-weaker : (p q : Entry → Bool) → ((e : Entry) → p e ≡ true → q e ≡ true) → (es : List Entry) → every p es ≡ true → every q es ≡ true
 unfolding every
 every-weaker p q w [] h = refl
 every-weaker p q w (e ∷ es) h =
@@ -158,9 +158,9 @@ apart-tail r ss w h =
     ap not (neither (hasRead (w .day) (w .value) r) (any (hasRead (w .day) (w .value)) ss) (not-true _ h) .1)
 
 -- ---- a sound list of kept entries stays sound
-pub newest-sound : (head : Head) (r : Entry) (ss es : List Entry) → standing es ≡ r ∷ ss → any isHeld es ≡ false → areSound head es ≡ true → areSound head (newestWithdrawn es) ≡ true
+pub newest-sound : (head : Head) (r : Entry) (ss es : List Entry) → standing es ≡ r ∷ ss → any isHeld es ≡ false → carriesRight head ss ≡ true → areSound head es ≡ true → areSound head (newestWithdrawn es) ≡ true
 unfolding areApart
-newest-sound head r ss es st none h =
+newest-sound head r ss es st none carry h =
     let c = clauses-of head es h in
     let rise : daysRise (r ∷ ss) ≡ true = rw st at (c .rise) in
     let opens : opensRight head (r ∷ ss) ≡ true = rw st at (c .opens) in
@@ -176,6 +176,7 @@ newest-sound head r ss es st none h =
       apart = rw now (every-withdrawn (isApartFrom ss) r ss es st
           (ap not (older-days (r .day) (r .value) r ss rise (omega arith)))
           (every-weaker (isApartFrom (r ∷ ss)) (isApartFrom ss) (apart-tail r ss) (withdrawn es) apart));
+      carry = rw now carry;
     })
 
 -- ---- the newest standing entry is a kept one

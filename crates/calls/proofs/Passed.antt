@@ -2,9 +2,9 @@
 use mathlib.Core.Path.{_≡_, refl, ap}
 use mathlib.Core.Bool.{Bool, true, false, not, cond, _&&_, _||_}
 use mathlib.Core.List.{List, [], _∷_}
-use Prim.Native.Nat.{ℕ, _≤_}
+use Prim.Native.Nat.{ℕ, _≤_, _<_}
 use native.Mathlib.Omega.{arith}
-use borrow.Author.Tests.{eqb-false, ltb-false, leb-false, lt-ltb, le-leb, eq-eqb, not-false}
+use borrow.Author.Tests.{eqb-false, ltb-true, ltb-false, leb-false, lt-ltb, le-leb, eq-eqb, not-false}
 use lib.Dec.{eqb, leb, ltb}
 use Rattle.arithmetic.specs.Powers.{tenTo}
 use Rattle.terms.specs.declared.entry.Entry.{Entry}
@@ -12,16 +12,16 @@ use Rattle.terms.specs.declared.entry.Recent.{Recent}
 use Rattle.terms.specs.declared.submission.Submission.{Submission}
 use Rattle.terms.specs.Letter.{letterI, letterO, letterF, letterC, letterU, letterR, letterT, letterS, letterX, letterY, letterE, isKnown, isOpening, isFinal, isHoldable, isUnchecked}
 use Rattle.terms.specs.Rule.{firstBroken}
-use Rattle.terms.specs.Entry.{kindStanding, those, slotAt, recentOf, indicatorNotSet, indicatorFalse, indicatorTrue}
+use Rattle.terms.specs.Entry.{kindStanding, slotAt, recentOf, indicatorNotSet, indicatorFalse, indicatorTrue}
 use Rattle.rules.specs.declared.detection.Detected.{Detected}
 use Rattle.rules.specs.declared.detection.Detected.the-variants.{NotRollover, Rollover, Indeterminate}
 use Rattle.rules.specs.Detection.{isNotRollover, detected}
 use Rattle.rules.specs.Indicator.{indicated, indicatedFlag}
 use Rattle.rules.specs.Volume.{isLowVolume, isHighVolume}
 use Rattle.rules.proofs.Queries.{query}
-use Rattle.journal.specs.Journal.{Journal, journalOf, standing, isThere, onDay}
+use Rattle.journal.specs.Journal.{Journal, journalOf, standing, withdrawn, isThere, onDay}
 use Rattle.journal.specs.Numbers.{areaRules}
-use Rattle.journal.specs.Sound.{any, holds, takes, opens, isInRange, isFinalRead, exists, isSound}
+use Rattle.journal.specs.Sound.{any, hasRead, holds, takes, opens, isInRange, isFinalRead, exists, isSound}
 use Rattle.journal.specs.Inner.Follow.{isAfter, mayStand}
 use Rattle.calls.specs.Checks.{isBadContent, isBadDate, isWithdrawnRead, isBackDated, isUnopened, isATLater, isOpeningIndicated, isFull, indicatedIn, takenFlag, recent, sameDay, contentRules, sameDayRules, orderRules, indicatorRules, volumeRules, submitRules, submitChecks}
 use Rattle.calls.specs.Calls.{entryFor}
@@ -150,13 +150,28 @@ module _ (s : Submission) (j : Journal) (p : Passed s j) where
   unfolding mayStand opens entryFor slotAt isUnopened isATLater exists
   may-stand [] st =
       let o : not (isOpening (s .letter)) ≡ false = rw st at (p .opened) in
-      together (not-false (isOpening (s .letter)) o) (eq-eqb _ 0 (taken-first s j st))
+      right-or (j .head .carried) (together (not-false (isOpening (s .letter)) o) (eq-eqb _ 0 (taken-first s j st)))
   may-stand (r ∷ ss) st =
       let later : isBackDated s (slotAt (r ∷ ss) 0) ≡ false = rw st at (p .later) in
       let day : isThere (onDay (s .day) (r ∷ ss)) ≡ false = rw st at (p .own-day) in
       let once : isOpening (s .letter) && true || isFinal (s .letter) && any isFinalRead (r ∷ ss) ≡ false = rw st at (p .once) in
       together (day-after s r ss later day)
       (ap not (and-true-false (isOpening (s .letter)) (neither (isOpening (s .letter) && true) _ once .0)))
+
+  -- it is dated, later than the last standing read, and none of the withdrawn ones
+  pub read-dated : 0 < s .day
+  unfolding isBadDate
+  read-dated = let ne : s .day ≡ 0 → ⊥ = eqb-false _ _ (neither (eqb (s .day) 0) _ (p .date) .0) in omega arith
+
+  pub read-later : (r : Entry) (ss : List Entry) → standing (j .entries) ≡ r ∷ ss → r .day < s .day
+  read-later r ss st =
+      let later : isBackDated s (slotAt (r ∷ ss) 0) ≡ false = rw st at (p .later) in
+      let day : isThere (onDay (s .day) (r ∷ ss)) ≡ false = rw st at (p .own-day) in
+      ltb-true _ _ (day-after s r ss later day)
+
+  pub read-fresh : any (hasRead (s .day) (s .value)) (withdrawn (j .entries)) ≡ false
+  unfolding isWithdrawnRead
+  read-fresh = p .fresh
 
 -- ---- a volume query: the type may be held, and a read stands before it
 holdable-if : (f c u r t s x e : Bool) → f || (c || (u || (r || (t || (s || (x || e)))))) ≡ true → c || (u || (r || (t || (s || (f || (x || e)))))) ≡ true

@@ -10,7 +10,7 @@ use lib.Dec.{eqb}
 use lib.ListN.{length, take, drop}
 use lib.Seq.{getD-drop}
 use Rattle.terms.specs.declared.entry.Entry.{Entry}
-use Rattle.terms.specs.Entry.{keepIf, those}
+use Rattle.terms.specs.Entry.{kindMeter, keepIf, those}
 use Rattle.register.specs.Area.{allZero}
 use Rattle.register.specs.declared.head.Head.{Head}
 use Rattle.register.specs.Bytes.{byteAt}
@@ -18,7 +18,7 @@ use Rattle.register.specs.Entries.{entryStart, entryAt}
 use Rattle.register.specs.Head.{headOf, mostEntries, bodyOf}
 use Rattle.register.proofs.Back.{same-entry}
 use Rattle.journal.specs.Journal.{entriesTo, countFrom, entryCount, journalOf, isKept, kept, heldOf, isThere}
-use Rattle.journal.specs.Sound.{every, isRead, isHead, isHeldRight, areSound, isSound}
+use Rattle.journal.specs.Sound.{every, isRead, isPlate, isHead, isHeldRight, areSound, isSound}
 use Rattle.journal.proofs.Entries.{length-entries, those-at-most, count-at-most}
 use Rattle.calls.proofs.Bools.{both, together, by-test}
 use Rattle.calls.proofs.Zeros.{zero-at}
@@ -134,6 +134,10 @@ module _ (a b : List ℕ) (n : ℕ) (h : take n a ≡ take n b) where
   unfolding entriesTo
   same-entries zero l = refl
   same-entries (suc k) l = cc (same-entry a b n h (entryStart k) (omega arith), same-entries k (omega arith))
+
+pub plate-of : (a : List ℕ) → isHead a ≡ true → isPlate (headOf a) ≡ true
+unfolding isHead
+plate-of a h = both (eqb (byteAt a 0) kindMeter) (isPlate (headOf a)) h .1
 
 -- an area with the same first byte and the same head has a good one where that is
 pub still-head : (a b : List ℕ) → headOf b ≡ headOf a → byteAt b 0 ≡ byteAt a 0 → isHead a ≡ true → isHead b ≡ true

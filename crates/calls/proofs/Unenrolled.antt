@@ -13,7 +13,7 @@ use Rattle.register.specs.Area.{areaBytes, areasIn, areaOf, allZero}
 use Rattle.register.proofs.Areas.{area-length}
 use Rattle.journal.specs.Numbers.{areaRules}
 use Rattle.calls.specs.declared.call.Call.{Call}
-use Rattle.calls.specs.declared.call.Call.the-variants.{Enrol, Submit, Withdraw, Report as ReportCall}
+use Rattle.calls.specs.declared.call.Call.the-variants.{Enrol, Submit, Withdraw, Report as ReportCall, Fold}
 use Rattle.calls.specs.Checks.{reportChecks}
 use Rattle.calls.specs.Calls.{reportIn, act, placeOf, step}
 use Rattle.calls.specs.Play.{Exchange, exchange, exchanges, numberOf, mayChange, names}
@@ -33,6 +33,7 @@ module _ (effects : Effects) (area : List ℕ) (size : length area ≡ areaBytes
   never (Enrol place dials capacity) other h = absurd (let z : _≡_ {A = ℕ} 0 1 = cc in let f : ⊥ = omega arith in f)
   never (Submit place s) other h = absurd (effects .apart area zero (effects .submit place s area size h .was-sound))
   never (Withdraw place day value) other h = absurd (effects .apart area zero (effects .withdraw place day value area size h .was-sound))
+  never (Fold place) other h = absurd (effects .apart area zero (effects .fold place area size h .was-sound))
   never (ReportCall place) other h = absurd (let z : noMeter ≡ accepted = sym (report-number area zero) ∙ h in let f : ⊥ = omega arith in f)
 
   -- what is not accepted leaves it
@@ -44,6 +45,7 @@ module _ (effects : Effects) (area : List ℕ) (size : length area ≡ areaBytes
       (λ t. effects .submit-refused place s area t)
   stays (Withdraw place day value) h = effects .withdraw-refused place day value area h
   stays (ReportCall place) h = effects .report place area
+  stays (Fold place) h = effects .fold-refused place area h
 
 -- ---- a run
 not-both : (x y z : Bool) → x && y || z ≡ false → (x ≡ true → y ≡ false) × (z ≡ false)

@@ -18,15 +18,16 @@ use Rattle.register.specs.Entries.{entryBytes, entryStart, entryAt, putEntry, z
 use Rattle.register.specs.Head.{headOf, mostEntries, bodyOf, entryOffset}
 use Rattle.register.proofs.Back.{entry-length, entry-below, entry-above, entry-same, past-entry, other-kind}
 use Rattle.register.proofs.Body.{body-room, entry-head, entry-head-kind, entry-body, kind-head, kind-head-kind, kind-body, same-offset}
-use Rattle.journal.specs.Journal.{Journal, entriesTo, entryCount, journalOf, isKept, standing, withdrawn, kept, heldOf, isThere, newestAt}
+use Rattle.journal.specs.Journal.{Journal, entriesTo, entryCount, journalOf, isKept, standing, withdrawn, kept, heldOf, isThere, newestAt, oldestOf}
 use Rattle.journal.specs.Numbers.{areaRules}
-use Rattle.journal.specs.Sound.{any, hasRead, areSound, isSound}
+use Rattle.journal.specs.Sound.{any, hasRead, carriesRight, areSound, isSound}
 use Rattle.journal.proofs.Entries.{length-entries, count-at-most}
-use Rattle.calls.specs.Checks.{isNotLast, withdrawRules, withdrawChecks}
+use Rattle.calls.specs.Checks.{isNotLast, isOldestKept, withdrawRules, withdrawChecks}
 use Rattle.calls.specs.Calls.{withdrawnBytes, withdrawnArea}
 use Rattle.calls.proofs.Bools.{by-test, apart, right-or}
 use Rattle.calls.proofs.Zeros.{zero-entry}
 use Rattle.calls.proofs.Lists.{none-held, none-held-empty, standing-kept, withdrawn-kept}
+use Rattle.calls.proofs.Carried.{carries-less}
 use Rattle.calls.proofs.Clauses.{clauses-of, kept-sound}
 use Rattle.calls.proofs.Shape.{entries-are, sound-from, sounds, kept-prefix, kept-at-most, count-kept, same-entries, still-head}
 use Rattle.calls.proofs.Newest.{withdrawnOf, newestWithdrawn, newest-below, newest-standing, newest-withdrawn, newest-none-held, newest-sound, newest-of-kept}
@@ -75,7 +76,7 @@ pub record Withdrawn (day value : ℕ) (a after : List ℕ) : Type 0 where
   pub stood : standing (journalOf a .entries) ≡ read ∷ standing (journalOf after .entries)
   pub withdrawn-now : (d v : ℕ) → any (hasRead d v) (withdrawn (journalOf after .entries)) ≡ hasRead d v read || any (hasRead d v) (withdrawn (journalOf a .entries))
 
-module _ (day value : ℕ) (a : List ℕ) (size : length a ≡ areaBytes) (sound : isSound a ≡ true) (r : Entry) (ss : List Entry) (st : standing (journalOf a .entries) ≡ r ∷ ss) (named : hasRead day value r ≡ true) where
+module _ (day value : ℕ) (a : List ℕ) (size : length a ≡ areaBytes) (sound : isSound a ≡ true) (r : Entry) (ss : List Entry) (st : standing (journalOf a .entries) ≡ r ∷ ss) (named : hasRead day value r ≡ true) (carry : carriesRight (headOf a) ss ≡ true) where
   abbrev es : List Entry
   es = journalOf a .entries
 
@@ -104,7 +105,7 @@ module _ (day value : ℕ) (a : List ℕ) (size : length a ≡ areaBytes) (sound
   marked-above n l = drop-set-lt n body (entryStart i) kindWithdrawn (omega (arith, i-below))
 
   still-sound : areSound (headOf a) (newestWithdrawn ks) ≡ true
-  still-sound = newest-sound _ r ss ks kept-stand (none-held es) (kept-sound _ es (sounds a sound .sound))
+  still-sound = newest-sound _ r ss ks kept-stand (none-held es) carry (kept-sound _ es (sounds a sound .sound))
 
   -- any area with the same head whose body agrees with the marked one up to the kept entries, and is zero from there on
   module _ (after : List ℕ) (size' : length after ≡ areaBytes) (same-head : headOf after ≡ headOf a) (same-kind : byteAt after 0 ≡ byteAt a 0) (below : take (entryStart (kept es)) (bodyOf after) ≡ take (entryStart (kept es)) (marked i body)) (end : allZero (drop (entryStart (kept es)) (bodyOf after)) ≡ true) where
@@ -141,16 +142,16 @@ module _ (day value : ℕ) (a : List ℕ) (size : length a ≡ areaBytes) (sound
       let next = entryStart (suc (kept es)) in
       let b : List ℕ = marked i body in
       let after = putEntry changed (entryOffset changed (kept es)) zeroEntry in
-      let body' : bodyOf after ≡ putEntry b here zeroEntry = rw (entry-body changed (kept es) zeroEntry, kind-body a i kindWithdrawn) in
+      let body' : bodyOf after ≡ putEntry b here zeroEntry = rw (entry-body changed (kept es) zeroEntry refl, kind-body a i kindWithdrawn refl) in
       let room : here + entryBytes ≤ length b = rw (length-set body (entryStart i) kindWithdrawn) (omega (arith, count-at-most a, body-room a size)) in
       let rest : allZero (drop next (putEntry b here zeroEntry)) ≡ true =
       rw (entry-above b here zeroEntry next (omega arith), marked-above next (omega arith), ← n) (sounds a sound .end)
       in
-      rw (← same-offset a changed (kept es) (kind-head a i kindWithdrawn))
+      rw (← same-offset a changed (kept es) (kind-head a i kindWithdrawn refl))
       (leaves after
       (entry-length changed (entryOffset changed (kept es)) zeroEntry ∙ length-set a (entryOffset a i) kindWithdrawn ∙ size)
-      (entry-head changed (kept es) zeroEntry ∙ kind-head a i kindWithdrawn)
-      (entry-head-kind changed (kept es) zeroEntry ∙ kind-head-kind a i kindWithdrawn)
+      (entry-head changed (kept es) zeroEntry refl ∙ kind-head a i kindWithdrawn refl)
+      (entry-head-kind changed (kept es) zeroEntry refl ∙ kind-head-kind a i kindWithdrawn refl)
       (rw body' (entry-below b here zeroEntry here (omega arith)))
       (rw body' (zero-entry (putEntry b here zeroEntry) here next (omega arith) (entry-same b here zeroEntry room) rest)))
 
@@ -159,10 +160,10 @@ module _ (day value : ℕ) (a : List ℕ) (size : length a ≡ areaBytes) (sound
       let n : entryCount a ≡ kept es = rw t at (count-kept a sound) in
       leaves changed
       (length-set a (entryOffset a i) kindWithdrawn ∙ size)
-      (kind-head a i kindWithdrawn)
-      (kind-head-kind a i kindWithdrawn)
-      (rw (kind-body a i kindWithdrawn))
-      (rw (kind-body a i kindWithdrawn, marked-above (entryStart (kept es)) (omega arith), ← n) (sounds a sound .end))
+      (kind-head a i kindWithdrawn refl)
+      (kind-head-kind a i kindWithdrawn refl)
+      (rw (kind-body a i kindWithdrawn refl))
+      (rw (kind-body a i kindWithdrawn refl, marked-above (entryStart (kept es)) (omega arith), ← n) (sounds a sound .end))
 
   withdrawn-in : Withdrawn day value a (withdrawnArea es a)
   unfolding withdrawnBytes
@@ -172,22 +173,26 @@ module _ (day value : ℕ) (a : List ℕ) (size : length a ≡ areaBytes) (sound
 pub record CanWithdraw (day value : ℕ) (a : List ℕ) : Type 0 where
   pub sound : isSound a ≡ true
   pub last : isNotLast day value (slotAt (standing (journalOf a .entries)) 0) ≡ false
+  pub other : isOldestKept day value (headOf a) (oldestOf (standing (journalOf a .entries))) ≡ false
 
 pub can-withdraw : (day value : ℕ) (a : List ℕ) → firstBroken (withdrawChecks day value a) ≡ accepted → CanWithdraw day value a
-unfolding withdrawChecks areaRules withdrawRules
+unfolding withdrawChecks areaRules withdrawRules journalOf
 can-withdraw day value a h =
     let u = unbroken accepted (withdrawChecks day value a) refl h in
-    record { sound = not-false _ (u .1 .0); last = u .1 .1 .1 .0 }
+    record { sound = not-false _ (u .1 .0); last = u .1 .1 .1 .0; other = u .1 .1 .1 .1 .0 }
 
-last-read : (day value : ℕ) (a : List ℕ) → length a ≡ areaBytes → isSound a ≡ true → (ss : List Entry) → standing (journalOf a .entries) ≡ ss → isNotLast day value (slotAt ss 0) ≡ false → Withdrawn day value a (withdrawnArea (journalOf a .entries) a)
+last-read : (day value : ℕ) (a : List ℕ) → length a ≡ areaBytes → isSound a ≡ true → (ss : List Entry) → standing (journalOf a .entries) ≡ ss → isNotLast day value (slotAt ss 0) ≡ false → isOldestKept day value (headOf a) (oldestOf ss) ≡ false → Withdrawn day value a (withdrawnArea (journalOf a .entries) a)
 unfolding isNotLast slotAt
-last-read day value a size sound [] st h = absurd (apart refl h)
-last-read day value a size sound (r ∷ ss) st h = withdrawn-in day value a size sound r ss st (not-false _ h)
+last-read day value a size sound [] st h o = absurd (apart refl h)
+last-read day value a size sound (r ∷ ss) st h o =
+    let named = not-false _ h in
+    let carry : carriesRight (headOf a) (r ∷ ss) ≡ true = rw st at (clauses-of _ _ (sounds a sound .sound) .carry) in
+    withdrawn-in day value a size sound r ss st named (carries-less (headOf a) day value r ss named o carry)
 
 pub withdrawal : (day value : ℕ) (a : List ℕ) → length a ≡ areaBytes → firstBroken (withdrawChecks day value a) ≡ accepted → Withdrawn day value a (withdrawnArea (journalOf a .entries) a)
 withdrawal day value a size h =
     let c = can-withdraw day value a h in
-    last-read day value a size (c .sound) (standing (journalOf a .entries)) refl (c .last)
+    last-read day value a size (c .sound) (standing (journalOf a .entries)) refl (c .last) (c .other)
 
 -- ---- what follows for the names of withdrawn reads
 module _ (day value : ℕ) (a after : List ℕ) (w : Withdrawn day value a after) where

@@ -12,7 +12,7 @@ use Rattle.register.specs.Area.{areaBytes, allZero}
 use Rattle.register.specs.Entries.{entryBytes, entryStart, putEntry}
 use Rattle.register.specs.Head.{headOf, mostEntries, bodyOf, entryOffset}
 use Rattle.register.proofs.Back.{entry-length, entry-below, entry-above, entry-same}
-use Rattle.register.proofs.Body.{body-room, entry-head, entry-head-kind, entry-body}
+use Rattle.register.proofs.Body.{NoCarryKind, body-room, entry-head, entry-head-kind, entry-body}
 use Rattle.journal.specs.Journal.{Journal, entriesTo, entryCount, journalOf, isKept, standing, withdrawn, kept, slotIf, heldOf}
 use Rattle.journal.specs.Sound.{every, isRead, areSound, isSound}
 use Rattle.calls.proofs.Bools.{both, together}
@@ -31,7 +31,7 @@ pub record Written (e : Entry) (a after : List ℕ) : Type 0 where
   pub sound : isSound after ≡ true
   pub journal : journalOf after ≡ withRead e (journalOf a)
 
-module _ (e : Entry) (a : List ℕ) (size : length a ≡ areaBytes) (sound : isSound a ≡ true) (room : kept (journalOf a .entries) < mostEntries (headOf a)) where
+module _ (e : Entry) (a : List ℕ) (size : length a ≡ areaBytes) (sound : isSound a ≡ true) (room : kept (journalOf a .entries) < mostEntries (headOf a)) (other : NoCarryKind (e .kind)) where
   abbrev k : ℕ
   k = kept (journalOf a .entries)
 
@@ -42,10 +42,10 @@ module _ (e : Entry) (a : List ℕ) (size : length a ≡ areaBytes) (sound : isS
   after = putEntry a (entryOffset a k) e
 
   same-head : headOf after ≡ headOf a
-  same-head = entry-head a k e
+  same-head = entry-head a k e other
 
   body-after : bodyOf after ≡ putEntry body (entryStart k) e
-  body-after = entry-body a k e
+  body-after = entry-body a k e other
 
   few : suc k ≤ mostEntries (headOf after)
   few = rw same-head (omega arith)
@@ -81,7 +81,7 @@ module _ (e : Entry) (a : List ℕ) (size : length a ≡ areaBytes) (sound : isS
   unfolding every
   written-sound h = record {
     size = entry-length a (entryOffset a k) e ∙ size;
-    sound = sound-from after (suc k) few end (still-head a after same-head (entry-head-kind a k e) (sounds a sound .head)) (rw (same-head, read-back) h);
+    sound = sound-from after (suc k) few end (still-head a after same-head (entry-head-kind a k e other) (sounds a sound .head)) (rw (same-head, read-back) h);
     journal = written-journal (both (isRead (headOf a) e) _ (clauses-of _ _ h .reads) .0);
   }
 

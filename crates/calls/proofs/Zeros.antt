@@ -6,7 +6,7 @@ use Prim.Native.Nat.{ℕ, zero, suc, _+_, _-_, _≤_}
 use native.Mathlib.Omega.{arith}
 use borrow.Author.Tests.{eqb-true, eq-eqb}
 use lib.Dec.{eqb}
-use lib.ListN.{getD, drop}
+use lib.ListN.{getD, drop, replicate}
 use lib.Seq.{drop-drop}
 use Rattle.terms.specs.declared.entry.Entry.{Entry}
 use Rattle.register.specs.Area.{allZero}
@@ -25,6 +25,11 @@ unfolding allZero
 zero-drop zero l h = h
 zero-drop (suc m) [] h = refl
 zero-drop (suc m) (b ∷ bs) h = zero-drop m bs (both (eqb b 0) (allZero bs) h .1)
+
+pub zero-replicate : (n : ℕ) → allZero (replicate n 0) ≡ true
+unfolding allZero
+zero-replicate zero = refl
+zero-replicate (suc n) = zero-replicate n
 
 -- zero from n on is zero from every later place on
 pub zero-past : (l : List ℕ) (n m : ℕ) → n ≤ m → allZero (drop n l) ≡ true → allZero (drop m l) ≡ true

@@ -1,32 +1,32 @@
 -- 01, Calls: what each call answers and what it leaves, byte for byte.
-use mathlib.Core.Bool.{Bool, not, _||_, cond}
+use mathlib.Core.Bool.{Bool, false, not, _||_, cond}
 use mathlib.Core.List.{List, [], _∷_}
 use Prim.Native.Nat.{ℕ, _*_}
 use lib.Dec.{eqb, leb}
-use lib.IntN.{ℤ, pos, negℤ}
+use lib.IntN.{ℤ, negℤ}
 use lib.ListN.{length, set, take, drop}
-use Rattle.arithmetic.specs.Advance.{advanceOf}
 use Rattle.terms.specs.declared.answer.Answer.{Answer}
-use Rattle.terms.specs.declared.answer.Report.{Report}
 use Rattle.terms.specs.declared.entry.Entry.{Entry}
 use Rattle.terms.specs.declared.entry.Slot.{Slot}
 use Rattle.terms.specs.declared.entry.Slot.the-variants.{Read, Empty}
 use Rattle.terms.specs.declared.submission.Submission.{Submission}
 use Rattle.terms.specs.Answer.{answer, acceptance, refusal, refusedReport}
-use Rattle.terms.specs.Entry.{kindStanding, kindWithdrawn, kindHeld, slotAt, those}
+use Rattle.terms.specs.Entry.{kindStanding, kindWithdrawn, kindHeld, slotAt}
 use Rattle.terms.specs.Number.{accepted, misfit, noMeter, low, high}
 use Rattle.terms.specs.Rule.{rule, firstBroken}
 use Rattle.rules.specs.Volume.{advanceOver}
 use Rattle.register.specs.declared.head.Head.{Head}
 use Rattle.register.specs.Area.{areaBytes, areasIn, registerBytes, areaOf, withArea}
 use Rattle.register.specs.Entries.{putEntry, zeroEntry}
-use Rattle.register.specs.Head.{putHead, entryOffset}
-use Rattle.journal.specs.Journal.{Journal, journalOf, entryCount, standing, kept, heldOf, isFlagged, isThere, firstValue, newestAt}
+use Rattle.register.specs.Head.{noCarry, putHead, entryOffset}
+use Rattle.journal.specs.Journal.{Journal, journalOf, entryCount, standing, kept, heldOf, isThere, newestAt, areaFor}
 use Rattle.calls.specs.declared.call.Call.{Call}
-use Rattle.calls.specs.declared.call.Call.the-variants.{Enrol, Submit, Withdraw, Report as ReportCall}
+use Rattle.calls.specs.declared.call.Call.the-variants.{Enrol, Submit, Withdraw, Report as ReportCall, Fold}
 use Rattle.calls.specs.declared.call.Reply.{Reply}
 use Rattle.calls.specs.declared.call.Reply.the-variants.{Answered, Reported}
-use Rattle.calls.specs.Checks.{submitChecks, withdrawChecks, enrolChecks, reportChecks, takenFlag}
+use Rattle.calls.specs.Checks.{submitChecks, withdrawChecks, enrolChecks, reportChecks, foldChecks, takenFlag}
+use Rattle.calls.specs.Fold.{foldedJournal}
+use Rattle.journal.specs.Total.{reportOf}
 
 -- what a call answers, and the area after it
 pub record Acted : Type 0 where
@@ -42,7 +42,7 @@ refused number area = acted (Answered (refusal number)) area
 
 -- ---- "Enrol (place, dials, capacity): writes kind 1."
 abbrev pub plateOf : ℕ → ℕ → Head
-plateOf dials capacity = record { dials = dials; capacity = capacity }
+plateOf dials capacity = record { dials = dials; capacity = capacity; carried = false; carry = noCarry }
 
 unfoldable pub enrolIn : Head → List ℕ → Acted
 enrolIn head area =
@@ -115,28 +115,19 @@ withdrawIn day value area =
     (withdrawnArea (journalOf area .entries) area))
     (refused (firstBroken (withdrawChecks day value area)) area)
 
--- ---- "Report (place) answers number, standing reads, flagged among them, and total: last − first + 10^n × flagged, 0 if none stands."
-unfoldable pub flaggedOf : List Entry → ℕ
-flaggedOf ss = length (those isFlagged ss)
-
-unfoldable pub totalOf : ℕ → List Entry → ℤ
-totalOf n [] = pos 0
-totalOf n (s ∷ ss) = advanceOf n (s .value) (flaggedOf (s ∷ ss)) (firstValue (s ∷ ss))
-
-unfoldable pub reportOf : Journal → Report
-reportOf j =
-    record {
-      number = accepted;
-      standing = length (standing (j .entries));
-      flagged = flaggedOf (standing (j .entries));
-      total = totalOf (j .head .dials) (standing (j .entries));
-    }
-
+-- ---- Report
 unfoldable pub reportIn : List ℕ → Acted
 reportIn area =
     cond (eqb (firstBroken (reportChecks area)) accepted)
     (acted (Reported (reportOf (journalOf area))) area)
     (acted (Reported (refusedReport (firstBroken (reportChecks area)))) area)
+
+-- ---- 02, 2: "Fold answers flag 0 and advance 0"
+unfoldable pub foldIn : List ℕ → Acted
+foldIn area =
+    cond (eqb (firstBroken (foldChecks area)) accepted)
+    (acted (Answered acceptance) (areaFor (foldedJournal (journalOf area))))
+    (refused (firstBroken (foldChecks area)) area)
 
 -- ---- a call on the area that it names
 unfoldable pub act : Call → List ℕ → Acted
@@ -144,12 +135,14 @@ act (Enrol place dials capacity) area = enrolIn (plateOf dials capacity) area
 act (Submit place read) area = submitIn read area
 act (Withdraw place day value) area = withdrawIn day value area
 act (ReportCall place) area = reportIn area
+act (Fold place) area = foldIn area
 
 unfoldable pub placeOf : Call → ℕ
 placeOf (Enrol place dials capacity) = place
 placeOf (Submit place read) = place
 placeOf (Withdraw place day value) = place
 placeOf (ReportCall place) = place
+placeOf (Fold place) = place
 
 -- a refusal, in the form of the call's answer
 unfoldable pub refusalOf : Call → ℕ → Reply
@@ -157,6 +150,7 @@ refusalOf (Enrol place dials capacity) number = Answered (refusal number)
 refusalOf (Submit place read) number = Answered (refusal number)
 refusalOf (Withdraw place day value) number = Answered (refusal number)
 refusalOf (ReportCall place) number = Reported (refusedReport number)
+refusalOf (Fold place) number = Answered (refusal number)
 
 -- ---- a call on the register: what it answers, and the register after it
 pub record Done : Type 0 where

@@ -3,6 +3,7 @@ use mathlib.Core.Bool.{Bool, true, false, not, _&&_, _||_}
 use mathlib.Core.List.{List, [], _∷_, _++_}
 use Prim.Native.Nat.{ℕ}
 use lib.Dec.{eqb, leb, ltb}
+use lib.ListN.{length}
 use Rattle.arithmetic.specs.Powers.{tenTo}
 use Rattle.terms.specs.declared.entry.Entry.{Entry}
 use Rattle.terms.specs.declared.entry.Slot.{Slot}
@@ -11,7 +12,7 @@ use Rattle.terms.specs.declared.entry.Recent.{Recent}
 use Rattle.terms.specs.declared.submission.Submission.{Submission}
 use Rattle.terms.specs.Letter.{letterI, isKnown, isOpening, isFinal}
 use Rattle.terms.specs.Entry.{indicatorNotSet, indicatorTrue, slotAt, recentOf}
-use Rattle.terms.specs.Number.{repeat, missing, content, date, withdrawnRead, readAT, readEH, readBF, backDated, readDF, indicatorOnOpening, noOriginal, full, readEE, readEF, low, high, overCapacity, notStanding, notLast, enrolled, plate}
+use Rattle.terms.specs.Number.{repeat, missing, content, date, withdrawnRead, readAT, readEH, readBF, backDated, readDF, indicatorOnOpening, noOriginal, full, readEE, readEF, low, high, overCapacity, notStanding, notLast, enrolled, plate, noFold, oldestKept}
 use Rattle.terms.specs.Rule.{Rule, rule}
 use Rattle.rules.specs.declared.indicator.Indicated.{Indicated}
 use Rattle.rules.specs.Detection.{detected}
@@ -20,7 +21,7 @@ use Rattle.rules.specs.Volume.{isLowVolume, isHighVolume, isOverCapacity}
 use Rattle.register.specs.Area.{allZero}
 use Rattle.register.specs.declared.head.Head.{Head}
 use Rattle.register.specs.Head.{mostEntries}
-use Rattle.journal.specs.Journal.{Journal, journalOf, standing, withdrawn, kept, heldOf, isThere, onDay}
+use Rattle.journal.specs.Journal.{Journal, journalOf, standing, withdrawn, kept, heldOf, isThere, onDay, oldestOf}
 use Rattle.journal.specs.Numbers.{areaRules}
 use Rattle.journal.specs.Sound.{any, exists, hasRead, isFinalRead, isPlate}
 
@@ -89,7 +90,7 @@ isHeldEqual s Empty = false
 unfoldable pub isUnheldReread : Submission → Slot → Bool
 isUnheldReread s held = eqb (s .reread) 1 && not (isHeldEqual s held)
 
--- "standing and withdrawn entries number 50"
+-- "standing and withdrawn entries number 50"; 02, 2: "16 counts to 49"
 unfoldable pub isFull : Journal → Bool
 isFull j = eqb (kept (j .entries)) (mostEntries (j .head))
 
@@ -104,7 +105,7 @@ isUnclear found = eqb (indicatedNumber found) readEF
 unfoldable pub indicatedIn : Submission → Journal → Indicated
 indicatedIn s j = indicated (detected (j .head .dials) s (recentOf (standing (j .entries)))) (s .indicator)
 
--- ---- 22, 23: withdrawal
+-- ---- 22, 23, 28: withdrawal
 -- "no standing read of that day and value"
 unfoldable pub isNotStanding : ℕ → ℕ → List Entry → Bool
 isNotStanding day value ss = not (any (hasRead day value) ss)
@@ -113,6 +114,19 @@ isNotStanding day value ss = not (any (hasRead day value) ss)
 unfoldable pub isNotLast : ℕ → ℕ → Slot → Bool
 isNotLast day value (Read r0) = not (hasRead day value r0)
 isNotLast day value Empty = true
+
+-- 28: "withdrawal of the oldest kept read"
+unfoldable pub isOldestKept : ℕ → ℕ → Head → Slot → Bool
+isOldestKept day value head (Read oldest) = head .carried && hasRead day value oldest
+isOldestKept day value head Empty = false
+
+-- ---- 27: fold
+-- "fewer than four stand or an F stands"
+abbrev pub leastToFold : ℕ
+leastToFold = 4
+
+unfoldable pub isNoFold : List Entry → Bool
+isNoFold ss = ltb (length ss) leastToFold || any isFinalRead ss
 
 -- ---- THE ORDER OF CHECKS. Every call checks 2 first, and then 3 for a place above 63.
 
@@ -180,11 +194,12 @@ module _ (s : Submission) (j : Journal) where
 unfoldable pub submitChecks : Submission → List ℕ → List Rule
 submitChecks s area = withJournal (submitRules s) area
 
--- "Withdraw: 2, 3, 4, 22, 23."
+-- "Withdraw: 2, 3, 4, 22, 23."; 02, 2: "28, .. after 23"
 unfoldable pub withdrawRules : ℕ → ℕ → Journal → List Rule
 withdrawRules day value j =
     rule notStanding (isNotStanding day value (standing (j .entries)))
     ∷ rule notLast (isNotLast day value (slotAt (standing (j .entries)) 0))
+    ∷ rule oldestKept (isOldestKept day value (j .head) (oldestOf (standing (j .entries))))
     ∷ []
 
 unfoldable pub withdrawChecks : ℕ → ℕ → List ℕ → List Rule
@@ -197,3 +212,10 @@ enrolChecks head area = rule enrolled (not (allZero area)) ∷ rule plate (not (
 -- "Report: 2, 3, 4."
 unfoldable pub reportChecks : List ℕ → List Rule
 reportChecks area = withJournal (λ j. []) area
+
+-- 02, 2: "27, .. after 4 in fold"
+unfoldable pub foldRules : Journal → List Rule
+foldRules j = rule noFold (isNoFold (standing (j .entries))) ∷ []
+
+unfoldable pub foldChecks : List ℕ → List Rule
+foldChecks area = withJournal foldRules area

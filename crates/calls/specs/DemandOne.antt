@@ -13,7 +13,7 @@ use Rattle.register.specs.Area.{areaOf}
 use Rattle.register.specs.Head.{entryOffset}
 use Rattle.journal.specs.Journal.{journalOf, kept, heldOf}
 use Rattle.calls.specs.declared.call.Call.{Call}
-use Rattle.calls.specs.declared.call.Call.the-variants.{Enrol, Submit, Withdraw, Report as ReportCall}
+use Rattle.calls.specs.declared.call.Call.the-variants.{Enrol, Submit, Withdraw, Report as ReportCall, Fold}
 use Rattle.calls.specs.declared.call.Reply.{Reply}
 use Rattle.calls.specs.declared.call.Reply.the-variants.{Answered, Reported}
 use Rattle.calls.specs.Checks.{takenFlag}
@@ -37,6 +37,7 @@ Stores (Submit place read) before after = StoresHeld read before after
 Stores (Enrol place dials capacity) before after = ⊥
 Stores (Withdraw place day value) before after = ⊥
 Stores (ReportCall place) before after = ⊥
+Stores (Fold place) before after = ⊥
 
 -- what holds of one call
 module _ (call : Call) (register : List ℕ) where

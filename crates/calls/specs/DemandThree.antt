@@ -10,7 +10,7 @@ use Rattle.journal.specs.Journal.{journalOf, standing}
 use Rattle.calls.specs.declared.call.Call.{Call}
 use Rattle.calls.specs.Kept.{isGood}
 use Rattle.calls.specs.Play.{Exchange, exchanges, registerAfter, zeroRegister, picked, callsOf}
-use Rattle.calls.specs.Ledger.{Named, named, ledgerOf, hasAccepted, hasEnrolment, lastLessFirst, areNoneOf}
+use Rattle.calls.specs.Ledger.{Named, named, ledgerOf, hasAccepted, hasEnrolment, lastLessFirst, lessFirst, areNoneOf}
 
 -- the days and values of a journal's kind 2 entries
 unfoldable pub namesOf : List Entry → List Named
@@ -24,8 +24,11 @@ pub record RunHolds (meter : ℕ) (xs : List Exchange) (register : List ℕ) : T
   pub sum : ledgerOf meter xs .advances ≡ lastLessFirst (ledgerOf meter xs .standing) +ℤ pos (10 ^ ledgerOf meter xs .dials) *ℤ ledgerOf meter xs .flags
   -- "After neither run does a read stand at the meter whose day and value an accepted withdrawal there named earlier."
   pub apart : areNoneOf (ledgerOf meter xs .standing) (ledgerOf meter xs .withdrawn) ≡ true
-  -- "after each run the meter's kind 2 entries hold just these days and values, in this order"
-  pub stand : namesOf (standing (journalOf (areaOf meter register) .entries)) ≡ ledgerOf meter xs .standing
+  -- "after each run the meter's kind 2 entries hold just these days and values, in this order"; 02, 2: "the kind 2 entries then hold that list
+  -- less its first reads, as many as were folded"
+  pub stand : namesOf (standing (journalOf (areaOf meter register) .entries)) ≡ lessFirst (ledgerOf meter xs .folded) (ledgerOf meter xs .standing)
+  -- as many as the carry counts
+  pub folded : journalOf (areaOf meter register) .head .carry .folded ≡ ledgerOf meter xs .folded
   -- "n is from the meter's accepted enrolment; without one nothing is accepted there and both sides of the sum are 0."
   pub unenrolled : hasEnrolment meter xs ≡ false → (hasAccepted meter xs ≡ false) × (ledgerOf meter xs .standing ≡ []) × (ledgerOf meter xs .advances ≡ pos 0) × (ledgerOf meter xs .flags ≡ pos 0)
   -- the area that holds them is all zero or sound
@@ -51,6 +54,7 @@ pub record RunsHold (meter : ℕ) (calls : List Call) : Type 0 where
   pub inA : RunHolds meter (runA calls) (registerAfter calls zeroRegister)
   pub inB : RunHolds meter (runB meter calls) (registerAfter (callsB meter calls) zeroRegister)
 
--- DEMAND 3: "This holds for every list of enrolments, submissions, withdrawals and reports, refused ones included, and for every meter."
+-- DEMAND 3: "This holds for every list of enrolments, submissions, withdrawals and reports, refused ones included, and for every meter."; 02, 2:
+-- folds are in the list too
 unfoldable pub DemandThree : Type 0
 DemandThree = (meter : ℕ) → meter < areasIn zeroRegister → (calls : List Call) → RunsHold meter calls

@@ -1,15 +1,17 @@
 -- 00, demand 3, and 01, The two runs of demand 3: what is worked out from a meter's calls and the answers to them, and not from the register.
 use mathlib.Core.Bool.{Bool, true, false, not, _&&_, _||_, cond}
 use mathlib.Core.List.{List, [], _∷_}
-use Prim.Native.Nat.{ℕ}
+use Prim.Native.Nat.{ℕ, _-_}
 use lib.Dec.{eqb}
 use lib.IntN.{ℤ, pos, _+ℤ_, _-ℤ_}
+use lib.ListN.{length, take}
 use Rattle.terms.specs.declared.answer.Answer.{Answer}
 use Rattle.terms.specs.Number.{accepted}
 use Rattle.calls.specs.declared.call.Call.{Call}
-use Rattle.calls.specs.declared.call.Call.the-variants.{Enrol, Submit, Withdraw, Report as ReportCall}
+use Rattle.calls.specs.declared.call.Call.the-variants.{Enrol, Submit, Withdraw, Report as ReportCall, Fold}
 use Rattle.calls.specs.declared.call.Reply.{Reply}
 use Rattle.calls.specs.declared.call.Reply.the-variants.{Answered, Reported}
+use Rattle.calls.specs.Fold.{readsKept}
 use Rattle.calls.specs.Play.{Exchange, numberOf, names}
 
 -- a read by its day and value
@@ -40,10 +42,12 @@ pub record Ledger : Type 0 where
   pub dials : ℕ
   -- the day and value that each accepted withdrawal named
   pub withdrawn : List Named
+  -- 02, 2: how many of the standing reads, its first ones, were folded
+  pub folded : ℕ
 
 -- "It starts empty."
 unfoldable pub emptyLedger : Ledger
-emptyLedger = record { standing = []; advances = pos 0; flags = pos 0; dials = 0; withdrawn = [] }
+emptyLedger = record { standing = []; advances = pos 0; flags = pos 0; dials = 0; withdrawn = []; folded = 0 }
 
 -- "flagged means answered with flag 1"
 unfoldable pub flagOf : Answer → ℤ
@@ -58,6 +62,7 @@ entered (Enrol place dials capacity) reply l =
       flags = l .flags;
       dials = dials;
       withdrawn = l .withdrawn;
+      folded = l .folded;
     }
 entered (Submit place s) (Answered a) l =
     record {
@@ -66,6 +71,7 @@ entered (Submit place s) (Answered a) l =
       flags = l .flags +ℤ flagOf a;
       dials = l .dials;
       withdrawn = l .withdrawn;
+      folded = l .folded;
     }
 entered (Submit place s) (Reported r) l = l
 entered (Withdraw place day value) (Answered a) l =
@@ -75,9 +81,20 @@ entered (Withdraw place day value) (Answered a) l =
       flags = l .flags -ℤ flagOf a;
       dials = l .dials;
       withdrawn = named day value ∷ l .withdrawn;
+      folded = l .folded;
     }
 entered (Withdraw place day value) (Reported r) l = l
 entered (ReportCall place) reply l = l
+-- 02, 2: an accepted fold "leaves the meter's list of standing reads as it is", and all but the last three are folded then
+entered (Fold place) reply l =
+    record {
+      standing = l .standing;
+      advances = l .advances;
+      flags = l .flags;
+      dials = l .dials;
+      withdrawn = l .withdrawn;
+      folded = length (l .standing) - readsKept;
+    }
 
 -- "Accepted means answered 0", here at this meter
 unfoldable pub isAccepted : ℕ → Exchange → Bool
@@ -102,6 +119,7 @@ isEnrolment (Enrol place dials capacity) = true
 isEnrolment (Submit place read) = false
 isEnrolment (Withdraw place day value) = false
 isEnrolment (ReportCall place) = false
+isEnrolment (Fold place) = false
 
 unfoldable pub hasEnrolment : ℕ → List Exchange → Bool
 hasEnrolment meter [] = false
@@ -116,6 +134,10 @@ firstValueOf s (t ∷ ss) = firstValueOf t ss
 unfoldable pub lastLessFirst : List Named → ℤ
 lastLessFirst [] = pos 0
 lastLessFirst (s ∷ ss) = pos (s .value) -ℤ pos (firstValueOf s ss)
+
+-- a list "less its first reads, as many as were folded": the first are at its end here
+unfoldable pub lessFirst : ℕ → List Named → List Named
+lessFirst folded rs = take (length rs - folded) rs
 
 unfoldable pub isAmong : Named → List Named → Bool
 isAmong r [] = false

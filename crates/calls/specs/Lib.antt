@@ -1,4 +1,5 @@
 pub mod Checks
+pub mod Fold
 pub mod Calls
 pub mod Kept
 pub mod Play

@@ -21,6 +21,9 @@ pub enum Call {
     Report {
         place: u16,
     },
+    Fold {
+        place: u16,
+    },
 }
 
 pub enum Reply {

@@ -19,7 +19,7 @@ pub fn demand_three()
     ensures { λ _. ⌜ DemandThree ⌝ }
 {}
 
-// Examples of what the definitions of demand 3 mean.
+// Examples of what the definitions of demand 3 and of a fold mean.
 pub fn examples_hold()
     ensures { λ _. ⌜ ExamplesHold ⌝ }
 {}

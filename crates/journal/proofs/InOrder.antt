@@ -12,10 +12,10 @@ use Rattle.terms.specs.declared.entry.Slot.the-variants.{Read, Empty}
 use Rattle.terms.specs.Entry.{kindStanding, isStanding, isHeld, keepIf, those, slotAt}
 use Rattle.terms.specs.Letter.{isOpening, isHoldable}
 use Rattle.register.specs.Entries.{entryStart, entryAt}
-use Rattle.journal.specs.Journal.{entriesTo, standing, slotIf, heldOf, isThere}
+use Rattle.journal.specs.Journal.{entriesTo, standing, slotIf, heldOf, isThere, dayOf}
 use Rattle.journal.specs.Sound.{every, any, isRead, daysRise, opensRight, isFinalRead, hasOneFinal, isLater, opens, exists, mayBeHeld, isHeldRight, areInOrder}
 use Rattle.journal.specs.Inner.Follow.{isAfter, mayStand, mayFollow}
-use Rattle.journal.specs.Inner.Loops.{standsBy, followsBy, dayOf}
+use Rattle.journal.specs.Inner.Loops.{standsBy, followsBy}
 use Rattle.journal.proofs.Bools.{both}
 
 -- ---- conjunctions

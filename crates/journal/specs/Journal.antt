@@ -3,15 +3,16 @@ use mathlib.Core.Bool.{Bool, true, false, _||_, cond}
 use mathlib.Core.List.{List, [], _∷_}
 use Prim.Native.Nat.{ℕ, zero, suc}
 use lib.Dec.{eqb}
-use lib.ListN.{length}
+use lib.ListN.{length, replicate}
 use Rattle.terms.specs.declared.entry.Entry.{Entry}
 use Rattle.terms.specs.declared.entry.Slot.{Slot}
 use Rattle.terms.specs.declared.entry.Slot.the-variants.{Read, Empty}
 use Rattle.terms.specs.Entry.{isStanding, isWithdrawn, isHeld, those}
 use Rattle.register.specs.declared.head.Head.{Head}
+use Rattle.register.specs.Area.{areaBytes}
 use Rattle.register.specs.Bytes.{byteAt}
-use Rattle.register.specs.Entries.{entryStart, entryAt}
-use Rattle.register.specs.Head.{headOf, mostEntries, bodyOf}
+use Rattle.register.specs.Entries.{entryStart, entryAt, putEntry}
+use Rattle.register.specs.Head.{headOf, mostEntries, bodyOf, putHead, offsetAfter}
 
 -- the first k entries of a body
 unfoldable pub entriesTo : ℕ → List ℕ → List Entry
@@ -62,6 +63,11 @@ unfoldable pub isThere : Slot → Bool
 isThere (Read e) = true
 isThere Empty = false
 
+-- the day of a read, and 0 where there is none
+unfoldable pub dayOf : Slot → ℕ
+dayOf (Read e) = e .day
+dayOf Empty = 0
+
 -- the standing read of a day
 unfoldable pub onDay : ℕ → List Entry → Slot
 onDay day [] = Empty
@@ -77,7 +83,21 @@ firstValue [] = 0
 firstValue (s ∷ []) = s .value
 firstValue (s ∷ t ∷ ss) = firstValue (t ∷ ss)
 
+-- the first standing read: in a journal with a carry, the oldest that was kept
+unfoldable pub oldestOf : List Entry → Slot
+oldestOf [] = Empty
+oldestOf (s ∷ []) = Read s
+oldestOf (s ∷ t ∷ ss) = oldestOf (t ∷ ss)
+
 -- how many entries come before the last standing one
 unfoldable pub newestAt : List Entry → ℕ
 newestAt [] = 0
 newestAt (e ∷ es) = cond (isStanding e) (length es) (newestAt es)
+
+-- ---- the area that holds a journal: its head, its entries in their order, "then zeros to the end"
+unfoldable pub putEntries : List ℕ → Head → List Entry → List ℕ
+putEntries area head [] = area
+putEntries area head (e ∷ es) = putEntry (putEntries area head es) (offsetAfter head (length es)) e
+
+unfoldable pub areaFor : Journal → List ℕ
+areaFor j = putEntries (putHead (replicate areaBytes 0) (j .head)) (j .head) (j .entries)

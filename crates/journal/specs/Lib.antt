@@ -1,4 +1,5 @@
 pub mod Journal
 pub mod Sound
 pub mod Numbers
+pub mod Total
 pub mod Inner

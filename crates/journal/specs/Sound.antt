@@ -6,6 +6,8 @@ use lib.Dec.{eqb, leb, ltb}
 use lib.ListN.{drop}
 use Rattle.arithmetic.specs.Powers.{tenTo}
 use Rattle.terms.specs.declared.entry.Entry.{Entry}
+use Rattle.terms.specs.declared.entry.Slot.{Slot}
+use Rattle.terms.specs.declared.entry.Slot.the-variants.{Read, Empty}
 use Rattle.terms.specs.Letter.{isKnown, isOpening, isFinal, isHoldable}
 use Rattle.terms.specs.Entry.{kindMeter, indicatorNotSet, indicatorTrue, isStanding, isWithdrawn, isHeld}
 use Rattle.register.specs.Area.{allZero}
@@ -13,7 +15,7 @@ use Rattle.register.specs.Bytes.{byteAt}
 use Rattle.register.specs.declared.head.Head.{Head}
 use Rattle.register.specs.Entries.{entryStart}
 use Rattle.register.specs.Head.{headOf, bodyOf}
-use Rattle.journal.specs.Journal.{entryCount, journalOf, standing, withdrawn}
+use Rattle.journal.specs.Journal.{entryCount, journalOf, standing, withdrawn, oldestOf}
 
 -- every entry, or any entry, passes a test
 unfoldable pub every : (Entry → Bool) → List Entry → Bool
@@ -46,9 +48,10 @@ holds head value = ltb value (tenTo (head .dials))
 unfoldable pub takes : Head → ℕ → Bool
 takes head letter = isKnown letter
 
--- how its first standing read opens: "The first standing read is type I or O with flag 0"
+-- how its first standing read opens: "The first standing read is type I or O with flag 0"; 02, 2: "in a carried journal the first standing
+-- read may have any type and flag"
 unfoldable pub opens : Head → Entry → Bool
-opens head s = isOpening (s .letter) && eqb (s .flag) 0
+opens head s = head .carried || isOpening (s .letter) && eqb (s .flag) 0
 
 -- ---- one entry: each field in its range
 -- "Kinds 2 standing, 3 withdrawn, 4 held, one body: day (2 bytes, 1 to 65,535; ..), value (4 bytes, below 10^n), type (ASCII letter),
@@ -114,14 +117,29 @@ unfoldable pub isHeldRight : List Entry → Bool
 isHeldRight [] = true
 isHeldRight (e ∷ es) = not (any isHeld es) && (not (isHeld e) || mayBeHeld e (standing es))
 
--- the entries of a sound journal, but for the clause that compares standing and withdrawn reads
+-- 02, 2: "A carry is sound if its value is below 10^n, flagged is at most folded, folded is at least 1 and below the oldest kept day, and a
+-- read stands."
+unfoldable pub isBefore : ℕ → Slot → Bool
+isBefore folded (Read oldest) = ltb folded (oldest .day)
+isBefore folded Empty = false
+
+unfoldable pub isCarry : Head → Slot → Bool
+isCarry head oldest =
+    holds head (head .carry .first)
+    && (leb (head .carry .flagged) (head .carry .folded)
+    && (leb 1 (head .carry .folded) && isBefore (head .carry .folded) oldest))
+
+unfoldable pub carriesRight : Head → List Entry → Bool
+carriesRight head ss = not (head .carried) || isCarry head (oldestOf ss)
+
+-- the entries of a sound journal, but for the clause that compares standing and withdrawn reads, and for its carry
 unfoldable pub areInOrder : Head → List Entry → Bool
 areInOrder head es =
     every (isRead head) es
     && (daysRise (standing es) && (opensRight head (standing es) && (hasOneFinal (standing es) && isHeldRight es)))
 
 unfoldable pub areSound : Head → List Entry → Bool
-areSound head es = areInOrder head es && areApart (standing es) (withdrawn es)
+areSound head es = areInOrder head es && (areApart (standing es) (withdrawn es) && carriesRight head (standing es))
 
 -- a sound area: a head, the entries, "then zeros to the end"
 unfoldable pub isSound : List ℕ → Bool

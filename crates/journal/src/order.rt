@@ -69,19 +69,28 @@ fn is_read(limit: u32, e: Entry) -> bool
     is_in_range(limit, e)
 }
 
-// The first standing read opens the journal; a later one is later and does not. Whether a read stands, and the day of the last one.
-fn may_stand(e: Entry, stands: bool, last: u16) -> bool
-    ensures { λ r. ⌜ ((head : Head) → r ≡ standsBy head e stands last) ⌝ }
+// The first standing read opens the journal, unless a carry does; a later one is later and does not. Whether a read stands, and the day of
+// the last one.
+fn may_stand(carried: bool, e: Entry, stands: bool, last: u16) -> bool
+    ensures { λ r. ⌜ ((head : Head) → carried ≡ head .carried → r ≡ standsBy head e stands last) ⌝ }
 {
     if stands {
         return (last < e.day) & !is_opening(e.letter);
     }
-    is_opening(e.letter) & (e.flag == 0)
+    carried | (is_opening(e.letter) & (e.flag == 0))
 }
 
 // Most entries stand, and the clause about held reads does not concern them.
-pub fn may_follow(limit: u32, e: Entry, stands: bool, last: u16, held: bool, ended: bool) -> bool
-    ensures { λ r. ⌜ ((head : Head) → limit ≡ tenTo (head .dials) → r ≡ followsBy head e stands last held ended) ⌝ }
+pub fn may_follow(
+    limit: u32,
+    carried: bool,
+    e: Entry,
+    stands: bool,
+    last: u16,
+    held: bool,
+    ended: bool,
+) -> bool
+    ensures { λ r. ⌜ ((head : Head) → limit ≡ tenTo (head .dials) → carried ≡ head .carried → r ≡ followsBy head e stands last held ended) ⌝ }
 {
     if held {
         return false;
@@ -91,7 +100,7 @@ pub fn may_follow(limit: u32, e: Entry, stands: bool, last: u16, held: bool, end
     }
     let second_final = is_final(e) & ended;
     if is_standing(e) {
-        return may_stand(e, stands, last) & !second_final;
+        return may_stand(carried, e, stands, last) & !second_final;
     }
     !is_held(e) | (is_holdable(e.letter) & ((stands & (last < e.day)) & !second_final))
 }

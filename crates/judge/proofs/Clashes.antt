@@ -8,9 +8,8 @@ use borrow.Author.Tests.{ltb-true, eqb-true, eqb-false, eq-eqb, ne-eqb}
 use lib.Dec.{eqb}
 use Rattle.terms.specs.declared.entry.Entry.{Entry}
 use Rattle.terms.specs.Entry.{kindStanding, kindWithdrawn, isStanding, isWithdrawn, keepIf, those, slotAt}
-use Rattle.journal.specs.Journal.{standing, withdrawn}
+use Rattle.journal.specs.Journal.{standing, withdrawn, dayOf}
 use Rattle.journal.specs.Sound.{any, every, hasRead, areApart, daysRise, isLater}
-use Rattle.journal.specs.Inner.Loops.{dayOf}
 use Rattle.judge.specs.Inner.Index.{clashes}
 use Rattle.judge.specs.Inner.Run.{lastDay}
 use Rattle.journal.proofs.Bools.{false-is, both, or-none}

@@ -13,9 +13,8 @@ use Rattle.terms.specs.declared.entry.Entry.{Entry}
 use Rattle.terms.specs.Entry.{kindStanding, isStanding, isWithdrawn, keepIf, those, slotAt}
 use Rattle.register.specs.Bytes.{byteAt}
 use Rattle.register.specs.Entries.{entryStart, entryAt}
-use Rattle.journal.specs.Journal.{entriesTo, withdrawn}
+use Rattle.journal.specs.Journal.{entriesTo, withdrawn, dayOf}
 use Rattle.journal.specs.Sound.{any, every, hasRead, areApart, daysRise, isLater}
-use Rattle.journal.specs.Inner.Loops.{dayOf}
 use Rattle.judge.specs.Inner.Halving.{placedAt, placed, Places, Between, valueMarks}
 use Rattle.judge.specs.Inner.Marks.{isMarked}
 use Rattle.journal.proofs.Bools.{both, or-none}

@@ -4,6 +4,7 @@ pub mod Indexes
 pub mod Halved
 pub mod Runs
 pub mod Passes
+pub mod Carries
 pub mod Newest
 pub mod Verdicts
 pub mod Numbers

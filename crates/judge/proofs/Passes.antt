@@ -1,6 +1,6 @@
 -- The pass after one entry more, and how it ends.
 use mathlib.Core.Path.{_≡_, refl, sym, ap, _∙_}
-use mathlib.Core.Bool.{Bool, true, false, not, _&&_, _||_}
+use mathlib.Core.Bool.{Bool, true, false, not, _&&_, _||_, or-true}
 use mathlib.Core.List.{List, [], _∷_}
 use Prim.Native.Nat.{ℕ, _+_, _-_, _≤_, _<_}
 use native.Mathlib.Numerals.{add-one}
@@ -8,7 +8,6 @@ use native.Mathlib.Omega.{arith}
 use borrow.Author.Tests.{eqb-true, ne-eqb, lt-ltb}
 use lib.Dec.{eqb}
 use lib.ListN.{length}
-use Rattle.arithmetic.specs.Powers.{tenTo}
 use Rattle.terms.specs.declared.entry.Entry.{Entry}
 use Rattle.terms.specs.Letter.{letterI, letterO, isKnown, isOpening, isFinal}
 use Rattle.terms.specs.Entry.{isStanding, isHeld, those, slotAt}
@@ -20,9 +19,9 @@ use Rattle.judge.specs.declared.pass.Pass.{Pass}
 use Rattle.judge.specs.declared.run.Run.{Run}
 use Rattle.register.specs.Head.{mostEntries}
 use Rattle.register.proofs.Body.{head-room}
-use Rattle.journal.specs.Journal.{entriesTo, countFrom, standing, withdrawn, heldOf, isThere}
+use Rattle.journal.specs.Journal.{entriesTo, countFrom, standing, withdrawn, heldOf, isThere, dayOf}
 use Rattle.journal.specs.Sound.{every, any, isFinalRead, holds, takes, opens, isInRange, isRead, daysRise, opensRight, hasOneFinal, isHeldRight, areInOrder, areApart}
-use Rattle.journal.specs.Inner.Loops.{standsBy, followsBy, dayOf}
+use Rattle.journal.specs.Inner.Loops.{standsBy, followsBy}
 use Rattle.judge.specs.Inner.Index.{crowded}
 use Rattle.judge.specs.Inner.Run.{runOf}
 use Rattle.judge.specs.Inner.Plain.{IsLimits, IsOpen, RunsTo}
@@ -66,10 +65,10 @@ module _ (body : List ℕ) (e : Entry) (p q : Pass) (run : p .run ≡ runOf (ent
   on : entriesTo (q .run .count) body ≡ e ∷ es
   on = rw (entry-count, one-more (p .run .count) body, ← read)
 
-  module _ {l : Limits} (small : p .run .count < l .most) (clear : Bool) (both-apart : q .apart ≡ p .apart && clear) (free : IsClear body (p .run) e clear) (more : (head : Head) (es : List Entry) → l .limit ≡ tenTo (head .dials) → p ≡ passOf head (p .apart) es → q ≡ passOf head (q .apart) (e ∷ es)) where
+  module _ {l : Limits} (small : p .run .count < l .most) (clear : Bool) (both-apart : q .apart ≡ p .apart && clear) (free : IsClear body (p .run) e clear) (more : (head : Head) (es : List Entry) → IsLimits head l → p ≡ passOf head (p .apart) es → q ≡ passOf head (q .apart) (e ∷ es)) where
     module _ (head : Head) (limits : IsLimits head l) (is : IsPass head body p) where
       same : q ≡ passOf head (q .apart) (entriesTo (q .run .count) body)
-      same = more head es (limits .limit) (is .same) ∙ ap (λ (xs : List Entry). passOf head (q .apart) xs) (sym on)
+      same = more head es limits (is .same) ∙ ap (λ (xs : List Entry). passOf head (q .apart) xs) (sym on)
 
       apart-is : q .apart ≡ true → areApart (standing (e ∷ es)) (withdrawn (e ∷ es)) ≡ true
       apart-is h =
@@ -191,7 +190,7 @@ module _ {head : Head} {l : Limits} {e : Entry} (limits : IsLimits head l) (firs
 
   first-follows : followsBy head e false 0 false false ≡ true
   unfolding followsBy standsBy opens
-  first-follows = rw (read-is, first .stands, first .opening, first .flag, opening-is (e .letter) (first .opening) .1)
+  first-follows = rw (read-is, first .stands, first .opening, first .flag, or-true, opening-is (e .letter) (first .opening) .1)
 
   first-open : IsOpen head false true (e ∷ [])
   unfolding areInOrder areApart every any those heldOf isThere slotAt dayOf daysRise opensRight hasOneFinal isHeldRight

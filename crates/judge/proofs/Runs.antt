@@ -16,9 +16,9 @@ use Rattle.register.specs.Bytes.{byteAt}
 use Rattle.register.specs.Entries.{entryStart, entryAt}
 use Rattle.judge.specs.declared.limits.Limits.{Limits}
 use Rattle.judge.specs.declared.run.Run.{Run}
-use Rattle.journal.specs.Journal.{entriesTo, standing, withdrawn, slotIf, heldOf, isThere, isFlagged, firstValue, newestAt}
+use Rattle.journal.specs.Journal.{entriesTo, standing, withdrawn, slotIf, heldOf, isThere, isFlagged, firstValue, newestAt, dayOf}
 use Rattle.journal.specs.Sound.{any, isFinalRead, holds, isInRange, isRead, hasRead, areInOrder}
-use Rattle.journal.specs.Inner.Loops.{standsBy, followsBy, dayOf}
+use Rattle.journal.specs.Inner.Loops.{standsBy, followsBy}
 use Rattle.judge.specs.Inner.Run.{lastDay, runOf, ranTo}
 use Rattle.judge.specs.Inner.Plain.{PlainLetter, IsLimits, PlainBody, IsOpen, OneOn, RunsTo}
 use Rattle.judge.proofs.Clashes.{stands-unwithdrawn, withdrawn-unstanding, free-standing, free-withdrawn, stays-apart}

@@ -1,6 +1,6 @@
 -- What an area is, by what the pass over it says.
 use mathlib.Core.Path.{_≡_, refl, sym, ap, _∙_}
-use mathlib.Core.Bool.{Bool, true, false, not, cond, and-false}
+use mathlib.Core.Bool.{Bool, true, false, not, _&&_, cond, and-true, and-false}
 use mathlib.Core.List.{List}
 use Prim.Native.Nat.{ℕ, _≤_}
 use native.Mathlib.Omega.{arith}
@@ -17,9 +17,9 @@ use Rattle.judge.specs.declared.area.Judged.the-variants as judge
 use Rattle.judge.specs.declared.area.Judgement.{Judgement}
 use Rattle.judge.specs.declared.area.Summary.{Summary}
 use Rattle.judge.specs.declared.pass.Pass.{Pass}
-use Rattle.journal.specs.Journal.{Journal, entriesTo, countFrom, entryCount, journalOf, standing, withdrawn}
-use Rattle.journal.specs.Sound.{any, hasRead, isHead, areApart, areSound, isSound}
-use Rattle.judge.specs.Inner.Judged.{summaryOf, judged, judgedBody, amongIn, Judges, Answers, Counted}
+use Rattle.journal.specs.Journal.{Journal, entriesTo, entryCount, journalOf, standing, withdrawn}
+use Rattle.journal.specs.Sound.{any, hasRead, isHead, areApart, carriesRight, areSound, isSound}
+use Rattle.judge.specs.Inner.Judged.{summaryOf, judged, countIn, isWhole, judgedBody, amongIn, Judges, Answers, Counted}
 use Rattle.judge.specs.Inner.Pass.{IsPassed}
 use Rattle.journal.proofs.Bools.{both}
 use Rattle.journal.proofs.Entries.{length-entries, count-from-most}
@@ -91,35 +91,40 @@ withdrawn-counted a {t} is answers e = answers .withdrawn-is ∙ rw (sym (answer
 
 -- ---- a body by the pass over it
 module _ {head : Head} {body : List ℕ} (p : Pass) (is : IsPassed head body p) where
-  pub body-disordered : p .ordered ≡ false → judgedBody head body ≡ judge.Damaged
-  unfolding judgedBody areSound
-  body-disordered h = rw (sym (is .ordered) ∙ h, and-false)
+  pub disordered : p .ordered ≡ false → false ≡ isWhole head body
+  unfolding isWhole areSound
+  disordered h = rw (sym (is .ordered) ∙ h, and-false)
 
   module _ (order : p .ordered ≡ true) where
     abbrev es : List Entry
     es = entriesTo (p .run .count) body
 
-    abbrev all : ℕ
-    all = countFrom (mostEntries head) 0 body
+    -- what is left of the clauses once the entries are in order
+    whole : isWhole head body ≡ allZero (drop (entryStart (p .run .count)) body) && (areApart (standing es) (withdrawn es) && carriesRight head (standing es))
+    unfolding isWhole areSound
+    whole = rw (sym (is .ordered) ∙ order, ← is .count order)
 
-    whole : (b : Bool) → areApart (standing es) (withdrawn es) ≡ b → areSound head (entriesTo all body) ≡ b
-    unfolding areSound
-    whole b h = rw (sym (is .ordered) ∙ order) (ap (λ (n : ℕ). areApart (standing (entriesTo n body)) (withdrawn (entriesTo n body))) (sym (is .count order)) ∙ h)
+    pub clashing : areApart (standing es) (withdrawn es) ≡ false → false ≡ isWhole head body
+    clashing h = rw (whole, h, and-false)
 
-    ends-are : {ends : Bool} → allZero (drop (entryStart (p .run .count)) body) ≡ ends → allZero (drop (entryStart all) body) ≡ ends
-    ends-are h = ap (λ (n : ℕ). allZero (drop (entryStart n) body)) (sym (is .count order)) ∙ h
+    pub miscarried : areApart (standing es) (withdrawn es) ≡ true → carriesRight head (standing es) ≡ false → false ≡ isWhole head body
+    miscarried apart h = rw (whole, apart, h, and-false)
 
-    pub body-clashing : areApart (standing es) (withdrawn es) ≡ false → judgedBody head body ≡ judge.Damaged
-    unfolding judgedBody
-    body-clashing h = rw (whole false h, and-false)
-
-    pub body-unended : allZero (drop (entryStart (p .run .count)) body) ≡ false → judgedBody head body ≡ judge.Damaged
-    unfolding judgedBody
-    body-unended h = rw (ends-are h)
-
-    pub body-judged : areApart (standing es) (withdrawn es) ≡ true → allZero (drop (entryStart (p .run .count)) body) ≡ true → judgedBody head body ≡ judge.Sound (summaryOf (record { head = head; entries = es }))
-    unfolding judgedBody
-    body-judged apart h = rw (ends-are h, whole true apart) (ap (λ (n : ℕ). judge.Sound (summaryOf (record { head = head; entries = entriesTo n body }))) (sym (is .count order)))
+    pub then-ends : areApart (standing es) (withdrawn es) ≡ true → carriesRight head (standing es) ≡ true → allZero (drop (entryStart (p .run .count)) body) ≡ isWhole head body
+    then-ends apart carries = rw (whole, apart, carries, and-true)
 
     pub pass-room : entryStart (mostEntries head) ≤ length body → entryStart (p .run .count) ≤ length body
     pass-room room = omega (arith, is .count order, count-from-most (mostEntries head) body)
+
+  pub body-damaged : isWhole head body ≡ false → judgedBody head body ≡ judge.Damaged
+  unfolding judgedBody
+  body-damaged h = rw h
+
+  module _ (is-whole : isWhole head body ≡ true) where
+    pub whole-ordered : p .ordered ≡ true
+    unfolding isWhole areSound
+    whole-ordered = is .ordered ∙ both _ _ (both (allZero (drop (entryStart (countIn head body)) body)) _ is-whole .1) .0
+
+    pub body-judged : judgedBody head body ≡ judge.Sound (summaryOf (record { head = head; entries = entriesTo (p .run .count) body }))
+    unfolding judgedBody
+    body-judged = rw (is-whole, is .count whole-ordered)

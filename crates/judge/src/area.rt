@@ -11,10 +11,11 @@ ghost use Rattle.register.specs.Entries.{entryStart};
 ghost use Rattle.register.specs.Head.{headOf, mostEntries, bodyOf};
 ghost use Rattle.journal.specs.Journal.{entriesTo, standing};
 ghost use Rattle.journal.specs.Sound.{isHead};
-ghost use Rattle.judge.specs.Inner.Judged.{valueOf, summaryOf, judged, judgedBody, Judges, Answers};
+ghost use Rattle.judge.specs.Inner.Judged.{valueOf, summaryOf, judged, isWhole, judgedBody, Judges, Answers};
 ghost use Rattle.judge.specs.Inner.Run.{runOf};
-ghost use Rattle.judge.specs.Inner.Pass.{IsPass};
+ghost use Rattle.judge.specs.Inner.Pass.{IsPass, IsPassed};
 use crate::apart::is_apart;
+use crate::carry::carries_right;
 use crate::limits::limits_of;
 use crate::pass::Pass;
 use crate::passed::pass_over;
@@ -130,6 +131,24 @@ fn no_journal(found: Judged) -> Judgement
     }
 }
 
+// The entries that were passed are sound, and zeros follow them.
+fn is_whole(body: &[u8], head: Head, limit: u32, pass: Pass) -> bool
+    requires { ⌜ (entryStart (mostEntries head) ≤ length (now body)) × (limit ≡ tenTo (head .dials)) × IsPassed head (now body) pass ⌝ }
+    ensures { λ r. ⌜ r ≡ isWhole head (now (body .entry)) ⌝ }
+{
+    if !pass.ordered {
+        return false;
+    }
+    if !is_apart(body, head, pass) {
+        return false;
+    }
+    let run = pass.run;
+    if !carries_right(body, head, limit, run) {
+        return false;
+    }
+    is_zero_from(body, Layout::ENTRY_BYTES * (run.count as usize))
+}
+
 // The entries that follow a head.
 fn judge_body(body: &[u8], head: Head, day: u16, value: u32) -> Judgement
     requires { ⌜ entryStart (mostEntries head) ≤ length (now body) ⌝ }
@@ -138,14 +157,7 @@ fn judge_body(body: &[u8], head: Head, day: u16, value: u32) -> Judgement
     let limits = limits_of(head);
     let passed = pass_over(body, head, limits, day, value);
     let pass = passed.pass;
-    if !pass.ordered {
-        return no_journal(Judged::Damaged);
-    }
-    if !is_apart(body, head, pass) {
-        return no_journal(Judged::Damaged);
-    }
-    let run = pass.run;
-    if !is_zero_from(body, Layout::ENTRY_BYTES * (run.count as usize)) {
+    if !is_whole(body, head, limits.limit, pass) {
         return no_journal(Judged::Damaged);
     }
     let summary = summary_of(body, head, limits.limit, pass);

@@ -1,6 +1,7 @@
 // The judgement of an area in one pass: all zero, damaged, or sound with what is counted, for any bytes whatever.
 mod apart;
 pub mod area;
+mod carry;
 mod halving;
 mod index;
 pub mod limits;

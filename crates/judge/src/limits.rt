@@ -14,6 +14,8 @@ pub struct Limits {
     pub limit: u32,
     // The most entries that may follow the head.
     pub most: u8,
+    // A carry follows the meter's entry.
+    pub carried: bool,
 }
 
 struct Letters;
@@ -30,6 +32,7 @@ pub(crate) fn limits_of(head: Head) -> Limits
         letters: Letters::PLAIN,
         limit: power(head.dials) as u32,
         most: most_entries(head),
+        carried: head.carried,
     }
 }
 

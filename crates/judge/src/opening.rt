@@ -15,6 +15,7 @@ use crate::run::plain_over;
 use crate::run::stand;
 use crate::run::start_run;
 use journal::order::is_standing;
+use register::head::HeadSize;
 use terms::entry::Entry;
 use terms::letter::is_opening;
 
@@ -52,13 +53,14 @@ fn is_first(limit: u32, e: Entry) -> bool
     indicator + 256 * flag == 0
 }
 
-// Past these. What else may be at the start is left to the way that knows all the rules.
+// Past these. What else may be at the start is left to the way that knows all the rules, and so is what follows a carry: without one the most
+// entries are a number that the compiler knows.
 pub(crate) fn open_over(body: &[u8], limits: Limits) -> Pass
     requires { ⌜ entryStart (limits .most) ≤ length (now body) ⌝ }
     ensures { λ r. ⌜ Starts (now (body .entry)) limits r ⌝ }
 {
     let start = start_pass();
-    if limits.most == 0 {
+    if limits.most != HeadSize::MAX_ENTRIES {
         return start;
     }
     let e = entry_at(body, 0);

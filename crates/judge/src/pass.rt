@@ -4,7 +4,6 @@ ghost use mathlib.Core.Bool.{true, _&&_};
 ghost use mathlib.Core.List.{List, _∷_};
 ghost use Prim.Native.Nat.{_+_, _≤_, _<_};
 ghost use lib.ListN.{length};
-ghost use Rattle.arithmetic.specs.Powers.{tenTo};
 ghost use Rattle.terms.specs.declared.entry.Entry.{Entry};
 ghost use Rattle.register.specs.declared.head.Head.{Head};
 ghost use Rattle.register.specs.Entries.{entryStart, entryAt};
@@ -34,7 +33,7 @@ use terms::entry::Entry;
 
 pub struct Pass {
     pub run: Run,
-    // In order: sound but for what compares standing and withdrawn reads.
+    // In order: sound but for what compares standing and withdrawn reads, and but for a carry.
     pub ordered: bool,
     // The newest entry is held.
     pub held: bool,
@@ -45,12 +44,20 @@ pub struct Pass {
 }
 
 // One entry more: whether it may follow, and whether it is clear of those before it.
-fn pass_with(pass: Pass, limit: u32, clear: bool, e: Entry) -> Pass
+fn pass_with(pass: Pass, limits: Limits, clear: bool, e: Entry) -> Pass
     requires { ⌜ (pass .run .count < 255) × (pass .run .standing ≤ pass .run .count) × (pass .run .flagged ≤ pass .run .standing) ⌝ }
-    ensures { λ r. ⌜ (r .apart ≡ pass .apart && clear) × ((es : List Entry) → pass .run ≡ runOf es → r .run ≡ runOf (e ∷ es)) × ((head : Head) (es : List Entry) → limit ≡ tenTo (head .dials) → pass ≡ passOf head (pass .apart) es → r ≡ passOf head (r .apart) (e ∷ es)) ⌝ }
+    ensures { λ r. ⌜ (r .apart ≡ pass .apart && clear) × ((es : List Entry) → pass .run ≡ runOf es → r .run ≡ runOf (e ∷ es)) × ((head : Head) (es : List Entry) → IsLimits head limits → pass ≡ passOf head (pass .apart) es → r ≡ passOf head (r .apart) (e ∷ es)) ⌝ }
 {
     let run = pass.run;
-    let follows = may_follow(limit, e, run.standing != 0, run.day, pass.held, pass.ended);
+    let follows = may_follow(
+        limits.limit,
+        limits.carried,
+        e,
+        run.standing != 0,
+        run.day,
+        pass.held,
+        pass.ended,
+    );
     let stands = is_standing(e);
     let counted = count(run, e);
     Pass {
@@ -111,7 +118,7 @@ fn pass_entry(body: &[u8], limits: Limits, index: &mut [u8; Index::BUCKETS], pas
     let run = pass.run;
     let e = entry_at(body, run.count);
     let clear = compare(body, index, run, e);
-    pass_with(pass, limits.limit, clear, e)
+    pass_with(pass, limits, clear, e)
 }
 
 // Past the plain entries that follow, or past one entry by all the rules.

@@ -1,14 +1,19 @@
 // Reading the entries of an area.
 ghost use mathlib.Core.Path.{_≡_};
+ghost use mathlib.Core.Bool.{cond};
 ghost use Prim.Native.Nat.{_+_, _≤_};
 ghost use lib.ListN.{length};
 ghost use Rattle.register.specs.Area.{areaBytes};
 ghost use Rattle.register.specs.Bytes.{wordAt, longAt};
 ghost use Rattle.register.specs.Entries.{entryStart, entryAt};
-ghost use Rattle.register.specs.Head.{headOf};
+ghost use Rattle.register.specs.Head.{meterBytes, isCarryAt, carryAt, noCarry, headOf};
 use register::area::Layout;
+use register::head::Carry;
 use register::head::Head;
+use register::head::HeadSize;
+use register::head::no_carry;
 use terms::entry::Entry;
+use terms::entry::Kind;
 
 pub(crate) fn word_at(bytes: &[u8], i: usize) -> u16
     requires { ⌜ i + 2 ≤ length (now bytes) ⌝ }
@@ -28,15 +33,36 @@ pub(crate) fn long_at(bytes: &[u8], i: usize) -> u32
     low + 65536 * high
 }
 
+// The carry of an area, and none where the byte after the meter's entry says so.
+fn carry_at(area: &[u8]) -> Carry
+    requires { ⌜ length (now area) ≡ areaBytes ⌝ }
+    ensures { λ r. ⌜ r ≡ cond (isCarryAt (now (area .entry)) meterBytes) (carryAt (now (area .entry)) meterBytes) noCarry ⌝ }
+{
+    if area[HeadSize::METER_BYTES] != Kind::CARRY {
+        return no_carry();
+    }
+    let first = long_at(area, HeadSize::METER_BYTES + 1);
+    let folded = word_at(area, HeadSize::METER_BYTES + 5);
+    let flagged = word_at(area, HeadSize::METER_BYTES + 7);
+    Carry {
+        first,
+        folded,
+        flagged,
+    }
+}
+
 // The head of an area.
 pub(crate) fn head_at(area: &[u8]) -> Head
     requires { ⌜ length (now area) ≡ areaBytes ⌝ }
     ensures { λ r. ⌜ r ≡ headOf (now (area .entry)) ⌝ }
 {
+    let carry = carry_at(area);
     let capacity = long_at(area, 2);
     Head {
         dials: area[1],
         capacity,
+        carried: area[HeadSize::METER_BYTES] == Kind::CARRY,
+        carry,
     }
 }
 

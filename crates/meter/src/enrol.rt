@@ -2,7 +2,7 @@
 ghost use mathlib.Core.Path.{_≡_};
 ghost use Rattle.terms.specs.Rule.{firstBroken};
 ghost use Rattle.calls.specs.Checks.{enrolChecks};
-ghost use Rattle.calls.specs.Calls.{acted, enrolIn, done, step};
+ghost use Rattle.calls.specs.Calls.{plateOf, acted, enrolIn, done, step};
 use calls::call::Call;
 use calls::call::Reply;
 use journal::plate::is_plate;
@@ -10,12 +10,25 @@ use place::Located;
 use place::locate;
 use register::area::Layout;
 use register::head::Head;
+use register::head::no_carry;
 use register::write::put_head;
 use register::zeros::is_zero;
 use terms::answer::Answer;
 use terms::answer::accept;
 use terms::answer::refuse;
 use terms::number::Number;
+
+// The head that an enrolment writes.
+fn plate(dials: u8, capacity: u32) -> Head
+    ensures { λ r. ⌜ r ≡ plateOf dials capacity ⌝ }
+{
+    Head {
+        dials,
+        capacity,
+        carried: false,
+        carry: no_carry(),
+    }
+}
 
 // 24, 25 or 0 for an area.
 fn check_enrolment(area: &[u8], head: Head) -> u8
@@ -31,9 +44,10 @@ fn check_enrolment(area: &[u8], head: Head) -> u8
 }
 
 // The call on the area that it names.
-fn enrol_in(area: &mut [u8], head: Head) -> Answer
-    ensures { λ r. ⌜ acted (Reply.Answered r) (now (area .exit)) ≡ enrolIn head (now (area .entry)) ⌝ }
+fn enrol_in(area: &mut [u8], dials: u8, capacity: u32) -> Answer
+    ensures { λ r. ⌜ acted (Reply.Answered r) (now (area .exit)) ≡ enrolIn (plateOf dials capacity) (now (area .entry)) ⌝ }
 {
+    let head = plate(dials, capacity);
     let number = check_enrolment(area, head);
     if number != Number::ACCEPTED {
         return refuse(number);
@@ -49,7 +63,7 @@ pub fn enrol(register: &mut [u8], place: u16, dials: u8, capacity: u32) -> Answe
         Located::Refused(number) => refuse(number),
         Located::At(start) => {
             let end = start + Layout::AREA_BYTES;
-            enrol_in(&mut register[start..end], Head { dials, capacity })
+            enrol_in(&mut register[start..end], dials, capacity)
         }
     }
 }

@@ -1,11 +1,13 @@
-// Report: how many reads stand, how many of them are flagged, and the total between the first and the last.
+// Report: how many reads stand, how many of them are flagged, and the total between the first and the last, with those that were folded.
 ghost use mathlib.Core.Path.{_≡_};
+ghost use Prim.Native.Nat.{_+_, _≤_};
 ghost use lib.ListN.{length};
 ghost use Rattle.register.specs.Area.{areaBytes};
 ghost use Rattle.journal.specs.Journal.{Journal, standing};
+ghost use Rattle.journal.specs.Total.{flaggedIn, totalOf, reportOf};
 ghost use Rattle.judge.specs.Inner.Judged.{summaryOf};
-ghost use Rattle.calls.specs.Calls.{totalOf, reportIn, acted, done, step};
-use arithmetic::advance::advance;
+ghost use Rattle.calls.specs.Calls.{reportIn, acted, done, step};
+use arithmetic::advance::total;
 use calls::call::Call;
 use calls::call::Reply;
 use judge::area::Judged;
@@ -13,21 +15,38 @@ use judge::area::Summary;
 use judge::area::judge_area;
 use place::Located;
 use place::locate;
+use reads::first::first;
 use register::area::Layout;
 use terms::answer::Report;
 use terms::answer::refuse_report;
 use terms::number::Number;
 
 // last − first + 10^n × flagged, 0 if none stands.
-fn total(t: Summary) -> i64
-    ensures { λ r. ⌜ ((j : Journal) → t ≡ summaryOf j → r ≡ totalOf (j .head .dials) (standing (j .entries))) ⌝ }
+fn total_in(t: Summary, flagged: u16) -> i64
+    ensures { λ r. ⌜ ((j : Journal) → t ≡ summaryOf j → flagged ≡ flaggedIn (j .head) (standing (j .entries)) → r ≡ totalOf (j .head) (standing (j .entries))) ⌝ }
 {
-    let head = t.head;
     let counts = t.counts;
     if counts.standing == 0 {
         return 0;
     }
-    advance(head.dials, t.last, counts.flagged, counts.first)
+    total(t.limit, t.last, flagged, first(t))
+}
+
+// A journal counts no more reads than it has days, so that their number fits two bytes.
+fn report_of(t: Summary) -> Report
+    requires { ⌜ (t .head .carry .folded + t .counts .standing ≤ 65535) × (t .head .carry .flagged + t .counts .flagged ≤ 65535) ⌝ }
+    ensures { λ r. ⌜ ((j : Journal) → t ≡ summaryOf j → r ≡ reportOf j) ⌝ }
+{
+    let head = t.head;
+    let carry = head.carry;
+    let counts = t.counts;
+    let flagged = carry.flagged + (counts.flagged as u16);
+    Report {
+        number: Number::ACCEPTED,
+        standing: carry.folded + (counts.standing as u16),
+        flagged,
+        total: total_in(t, flagged),
+    }
 }
 
 fn report_area(area: &[u8]) -> Report
@@ -39,15 +58,7 @@ fn report_area(area: &[u8]) -> Report
     match found {
         Judged::Zero => refuse_report(Number::NO_METER),
         Judged::Damaged => refuse_report(Number::DAMAGED),
-        Judged::Sound(t) => {
-            let counts = t.counts;
-            Report {
-                number: Number::ACCEPTED,
-                standing: counts.standing as u16,
-                flagged: counts.flagged as u16,
-                total: total(t),
-            }
-        }
+        Judged::Sound(t) => report_of(t),
     }
 }
 

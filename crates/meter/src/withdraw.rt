@@ -48,7 +48,8 @@ fn is_not_last(t: Summary, day: u16, value: u32) -> bool
     !((0 < counts.standing) & ((t.day == day) & (t.last == value)))
 }
 
-// 22, 23 or 0 for a sound journal. The last standing read needs no search, so only a refusal makes one.
+// 22, 23, 28 or 0 for a sound journal. The last standing read needs no search, so only a refusal makes one; where it stands alone it is the
+// oldest too.
 fn check_withdrawal(area: &[u8], t: Summary, day: u16, value: u32) -> u8
     requires { ⌜ Counted (now area) t ⌝ }
     ensures { λ r. ⌜ r ≡ firstBroken (withdrawRules day value (journalOf (now (area .entry)))) ⌝ }
@@ -59,10 +60,15 @@ fn check_withdrawal(area: &[u8], t: Summary, day: u16, value: u32) -> u8
         }
         return Number::NOT_STANDING;
     }
+    let head = t.head;
+    let counts = t.counts;
+    if head.carried & (counts.standing == 1) {
+        return Number::OLDEST_KEPT;
+    }
     Number::ACCEPTED
 }
 
-// 3, 4, 22, 23, or what was counted of the journal to change.
+// 3, 4, 22, 23, 28, or what was counted of the journal to change.
 fn decide_withdrawal(area: &[u8], day: u16, value: u32) -> Decided
     requires { ⌜ length (now area) ≡ areaBytes ⌝ }
     ensures { λ r. ⌜ Decides day value (now (area .entry)) r ⌝ }
@@ -141,8 +147,9 @@ fn withdraw_in(area: &mut [u8], day: u16, value: u32) -> Answer
             let r1 = second(area, t);
             let newest = offset_after(head, counts.newest);
             let end = offset_after(head, counts.kept);
+            let answer = withdrawn_answer(head.dials, r0, r1);
             mark_withdrawn(area, newest, end, counts.kept != t.entries);
-            withdrawn_answer(head.dials, r0, r1)
+            answer
         }
     }
 }

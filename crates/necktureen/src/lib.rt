@@ -77,6 +77,22 @@ pub extern "C" fn necktureen_withdraw(
 }
 
 #[no_mangle]
+pub extern "C" fn necktureen_fold(
+    register: &mut [u8],
+    place: u16,
+    flag: &mut u8,
+    advance: &mut i64,
+) -> u8
+    ensures { λ r. ⌜ done (Reply.Answered (answer r (now (flag .exit)) (now (advance .exit)))) (now (register .exit)) ≡ step (Call.Fold place) (now (register .entry)) ⌝ }
+{
+    let a = fold::fold::fold(register, place);
+    let moved = a.advance;
+    *flag = a.flag;
+    *advance = moved;
+    a.number
+}
+
+#[no_mangle]
 pub extern "C" fn necktureen_report(
     register: &[u8],
     place: u16,

@@ -12,9 +12,8 @@ use Rattle.register.specs.declared.head.Head.{Head}
 use Rattle.register.specs.Entries.{entryStart, entryAt}
 use Rattle.register.specs.Head.{headOf, headBytes, mostEntries, bodyOf}
 use Rattle.judge.specs.declared.area.Summary.{Summary}
-use Rattle.journal.specs.Journal.{Journal, journalOf, entriesTo, standing, kept, heldOf, isThere, newestAt}
+use Rattle.journal.specs.Journal.{Journal, journalOf, entriesTo, standing, kept, heldOf, isThere, newestAt, dayOf}
 use Rattle.journal.specs.Sound.{areInOrder, areSound, daysRise}
-use Rattle.journal.specs.Inner.Loops.{dayOf}
 use Rattle.judge.specs.Inner.Judged.{countsOf, summaryOf, Counted}
 use Rattle.journal.proofs.Bools.{both}
 use Rattle.journal.proofs.Entries.{length-entries, count-at-most}
@@ -57,7 +56,7 @@ module _ (a : List ℕ) (t : Summary) (is : Counted a t) where
   head-of : t .head ≡ headOf a
   head-of = head-is a t (is .sound) (is .summary)
 
-  in-body : journalOf a .entries ≡ entriesTo (t .entries) body
+  pub in-body : journalOf a .entries ≡ entriesTo (t .entries) body
   unfolding bodyOf
   in-body = ap (λ (j : Journal). j .entries) (journal-is a t (is .sound) (is .summary)) ∙ ap (λ (h : Head). entriesTo (t .entries) (drop (headBytes h) a)) (sym head-of)
 

@@ -11,9 +11,8 @@ use Rattle.terms.specs.declared.entry.Entry.{Entry}
 use Rattle.terms.specs.declared.entry.Slot.{Slot}
 use Rattle.terms.specs.declared.entry.Slot.the-variants.{Read, Empty}
 use Rattle.terms.specs.Entry.{isStanding, keepIf, those, slotAt}
-use Rattle.journal.specs.Journal.{standing, slotIf, onDay}
+use Rattle.journal.specs.Journal.{standing, slotIf, onDay, dayOf}
 use Rattle.journal.specs.Sound.{any, hasRead, daysRise, isLater}
-use Rattle.journal.specs.Inner.Loops.{dayOf}
 use Rattle.journal.proofs.Bools.{both, or-none}
 use Rattle.judge.proofs.Clashes.{none-stands}
 

@@ -2,3 +2,4 @@ pub mod Lent
 pub mod Days
 pub mod Counted
 pub mod Back
+pub mod Totals

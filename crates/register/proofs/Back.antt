@@ -7,11 +7,8 @@ use mathlib.Core.Logic.{_≢_}
 use lib.ListN.{length, getD, set, take, drop, length-set}
 use lib.Seq.{getD-set-same, getD-set-other, getD-take, getD-drop, take-set-le, drop-set-lt}
 use Rattle.terms.specs.declared.entry.Entry.{Entry}
-use Rattle.terms.specs.Entry.{kindMeter}
-use Rattle.register.specs.Bytes.{byteAt, wordAt, longAt, putWord, putLong}
-use Rattle.register.specs.declared.head.Head.{Head}
+use Rattle.register.specs.Bytes.{wordAt, longAt, putWord, putLong}
 use Rattle.register.specs.Entries.{entryAt, putEntry}
-use Rattle.register.specs.Head.{meterBytes, headOf, putHead}
 
 -- ---- lists that agree from low up to high: what is read there is the same
 module _ (a b : List ℕ) (low high : ℕ) (h : (j : ℕ) → low ≤ j → j < high → getD a j 0 ≡ getD b j 0) where
@@ -43,7 +40,7 @@ module _ (a b : List ℕ) (n : ℕ) (h : take n a ≡ take n b) where
   same-up-to : (j : ℕ) → 0 ≤ j → j < n → getD a j 0 ≡ getD b j 0
   same-up-to j g l = same-byte j l
 
-  same-word : (j : ℕ) → j + 2 ≤ n → wordAt a j ≡ wordAt b j
+  pub same-word : (j : ℕ) → j + 2 ≤ n → wordAt a j ≡ wordAt b j
   same-word j l = alike-word a b 0 n same-up-to j (omega arith) l
 
   pub same-long : (j : ℕ) → j + 4 ≤ n → longAt a j ≡ longAt b j
@@ -54,7 +51,7 @@ module _ (a b : List ℕ) (n : ℕ) (h : take n a ≡ take n b) where
 
 -- ---- what agrees from n on has the same entries there
 module _ (a b : List ℕ) (n : ℕ) (h : drop n a ≡ drop n b) where
-  past-byte : (j : ℕ) → n ≤ j → getD a j 0 ≡ getD b j 0
+  pub past-byte : (j : ℕ) → n ≤ j → getD a j 0 ≡ getD b j 0
   past-byte j g =
       let e : n + (j - n) ≡ j = omega arith in
       rw e at (sym (getD-drop n a (j - n) 0) ∙ ap (λ (z : List ℕ). getD z (j - n) 0) h ∙ getD-drop n b (j - n) 0)
@@ -86,22 +83,22 @@ other-kind a i k room =
 
 -- ---- a write
 module _ (a : List ℕ) (i : ℕ) where
-  word-length : (v : ℕ) → length (putWord a i v) ≡ length a
+  pub word-length : (v : ℕ) → length (putWord a i v) ≡ length a
   unfolding putWord
   word-length v = simp length-set
 
-  word-below : (v n : ℕ) → n ≤ i → take n (putWord a i v) ≡ take n a
+  pub word-below : (v n : ℕ) → n ≤ i → take n (putWord a i v) ≡ take n a
   unfolding putWord
   word-below v n l = let l′ : n ≤ i + 1 = omega arith in simp take-set-le
 
-  word-above : (v n : ℕ) → i + 2 ≤ n → drop n (putWord a i v) ≡ drop n a
+  pub word-above : (v n : ℕ) → i + 2 ≤ n → drop n (putWord a i v) ≡ drop n a
   unfolding putWord
   word-above v n l =
       let l₀ : i < n = omega arith in
       let l₁ : i + 1 < n = omega arith in
       simp drop-set-lt
 
-  word-same : (v : ℕ) → i + 2 ≤ length a → wordAt (putWord a i v) i ≡ v
+  pub word-same : (v : ℕ) → i + 2 ≤ length a → wordAt (putWord a i v) i ≡ v
   unfolding wordAt putWord
   word-same v l =
       let ne : i ≢ i + 1 = omega arith in
@@ -110,22 +107,22 @@ module _ (a : List ℕ) (i : ℕ) where
       simp (getD-set-same, getD-set-other) (omega arith)
 
 module _ (a : List ℕ) (i : ℕ) where
-  long-length : (v : ℕ) → length (putLong a i v) ≡ length a
+  pub long-length : (v : ℕ) → length (putLong a i v) ≡ length a
   unfolding putLong
   long-length v = simp word-length
 
-  long-below : (v n : ℕ) → n ≤ i → take n (putLong a i v) ≡ take n a
+  pub long-below : (v n : ℕ) → n ≤ i → take n (putLong a i v) ≡ take n a
   unfolding putLong
   long-below v n l = let l′ : n ≤ i + 2 = omega arith in simp word-below
 
-  long-above : (v n : ℕ) → i + 4 ≤ n → drop n (putLong a i v) ≡ drop n a
+  pub long-above : (v n : ℕ) → i + 4 ≤ n → drop n (putLong a i v) ≡ drop n a
   unfolding putLong
   long-above v n l =
       let l₀ : i + 2 ≤ n = omega arith in
       let l₂ : i + 2 + 2 ≤ n = omega arith in
       simp word-above
 
-  long-same : (v : ℕ) → i + 4 ≤ length a → longAt (putLong a i v) i ≡ v
+  pub long-same : (v : ℕ) → i + 4 ≤ length a → longAt (putLong a i v) i ≡ v
   unfolding longAt putLong
   long-same v l =
       let low : List ℕ = putWord a i (v % 65536) in
@@ -148,6 +145,17 @@ entry-below a i e n l =
     let l₇ : n ≤ i + 7 = omega arith in
     let l₈ : n ≤ i + 8 = omega arith in
     let l₉ : n ≤ i + 9 = omega arith in
+    simp (take-set-le, word-below, long-below)
+
+-- up to its kind it is that byte alone
+pub entry-first : (a : List ℕ) (i : ℕ) (e : Entry) → take (i + 1) (putEntry a i e) ≡ take (i + 1) (set a i (e .kind))
+unfolding putEntry
+entry-first a i e =
+    let l₁ : i + 1 ≤ i + 1 = omega arith in
+    let l₃ : i + 1 ≤ i + 3 = omega arith in
+    let l₇ : i + 1 ≤ i + 7 = omega arith in
+    let l₈ : i + 1 ≤ i + 8 = omega arith in
+    let l₉ : i + 1 ≤ i + 9 = omega arith in
     simp (take-set-le, word-below, long-below)
 
 pub entry-above : (a : List ℕ) (i : ℕ) (e : Entry) (n : ℕ) → i + 10 ≤ n → drop n (putEntry a i e) ≡ drop n a
@@ -219,41 +227,3 @@ module _ (a : List ℕ) (i : ℕ) (e : Entry) (room : i + 10 ≤ length a) where
       let indicator = same-byte s₆ s₅ (i + 9) e₅ (i + 8) (omega arith) ∙ getD-set-same s₄ (i + 8) (e .indicator) 0 l₄ in
       let flag = getD-set-same s₅ (i + 9) (e .flag) 0 l₅ in
       λ t. record { kind = kind t; day = day t; value = value t; letter = letter t; indicator = indicator t; flag = flag t }
-
--- ---- the head written
-module _ (a : List ℕ) (head : Head) where
-  pub head-length : length (putHead a head) ≡ length a
-  unfolding putHead
-  head-length = simp (long-length, length-set)
-
-  pub head-above : (n : ℕ) → meterBytes ≤ n → drop n (putHead a head) ≡ drop n a
-  unfolding putHead
-  head-above n l =
-      let l₀ : 0 < n = omega arith in
-      let l₁ : 1 < n = omega arith in
-      let l₂ : 2 + 4 ≤ n = omega arith in
-      simp (drop-set-lt, long-above)
-
-  module _ (room : meterBytes ≤ length a) where
-    abbrev front : List ℕ
-    front = set (set a 0 kindMeter) 1 (head .dials)
-
-    below : take 2 (putHead a head) ≡ take 2 front
-    unfolding putHead
-    below = long-below front 2 (head .capacity) 2 (omega arith)
-
-    pub head-kind : byteAt (putHead a head) 0 ≡ kindMeter
-    head-kind =
-        same-byte (putHead a head) front 2 below 0 (omega arith)
-        ∙ getD-set-other (set a 0 kindMeter) 1 0 (head .dials) 0 (omega arith)
-        ∙ getD-set-same a 0 kindMeter 0 (omega arith)
-
-    pub head-same : headOf (putHead a head) ≡ head
-    unfolding headOf putHead
-    head-same =
-        let dials : byteAt (putHead a head) 1 ≡ head .dials =
-        same-byte (putHead a head) front 2 below 1 (omega arith)
-        ∙ getD-set-same (set a 0 kindMeter) 1 (head .dials) 0 (simp length-set (omega arith))
-        in
-        let capacity : longAt (putHead a head) 2 ≡ head .capacity = long-same front 2 (head .capacity) (simp length-set (omega arith)) in
-        λ t. record { dials = dials t; capacity = capacity t }

@@ -7,12 +7,19 @@ use native.Mathlib.Omega.{arith}
 use borrow.Author.Tests.{leb-true, leb-false, eqb-true, eq-eqb}
 use lib.Bits.{bitOr, or-add-and, and-le-l, and-le-r}
 use lib.Dec.{eqb, leb}
-use lib.ListN.{getD, drop}
+use lib.ListN.{length, getD, drop, List·getD-eq-default}
 use lib.Seq.{getD-drop}
 use Rattle.register.specs.Bytes.{byteAt}
 use Rattle.register.specs.declared.zeros.Lanes.{Lanes}
 use Rattle.register.specs.Area.{allZero}
-use Rattle.register.specs.Inner.Zeros.{Zeros, Adds}
+use Rattle.register.specs.Inner.Zeros.{AreZero, Zeros, Adds}
+
+-- below a number or from it on
+pub either-side : {A : Type 0} (i j : ℕ) → (j < i → A) → (i ≤ j → A) → A
+either-side {A} i j below above = side (leb i j) refl where
+  side : (t : Bool) → leb i j ≡ t → A
+  side true q = above (leb-true i j q)
+  side false q = below (leb-false i j q)
 
 -- ---- bytes side by side
 module _ (b : List ℕ) where
@@ -66,19 +73,28 @@ four-parts w x y z h =
 four-none : (w x y z : ℕ) → (w ≡ 0) × (x ≡ 0) × (y ≡ 0) × (z ≡ 0) → bitOr (bitOr w x) (bitOr y z) ≡ 0
 four-none w x y z h = or-none (bitOr w x) (bitOr y z) (or-none w x (h .0) (h .1)) (or-none y z (h .2) (h .3))
 
-pub block-adds : {b : List ℕ} {i : ℕ} (x₀ x₁ x₂ x₃ x₄ x₅ x₆ x₇ : ℕ) (l : Lanes) → Zeros b i 64 (x₀ + x₁ + x₂ + x₃ + x₄ + x₅ + x₆ + x₇) → Adds b i 64 l (record { low = bitOr (l .low) (bitOr (bitOr x₀ x₂) (bitOr x₄ x₆)); high = bitOr (l .high) (bitOr (bitOr x₁ x₃) (bitOr x₅ x₇)) })
+pub block-adds : {b : List ℕ} {i : ℕ} (x₀ x₁ x₂ x₃ x₄ x₅ x₆ x₇ : ℕ) (l : Lanes) → Zeros b i 64 (x₀ + x₁ + x₂ + x₃ + x₄ + x₅ + x₆ + x₇) → Adds b i 64 l (record { low = bitOr (l .low) (bitOr (bitOr x₀ x₄) (bitOr x₂ x₆)); high = bitOr (l .high) (bitOr (bitOr x₁ x₅) (bitOr x₃ x₇)) })
 block-adds x₀ x₁ x₂ x₃ x₄ x₅ x₆ x₇ l z =
     record {
       before = λ c. (or-parts (l .low) _ (c .0) .0, or-parts (l .high) _ (c .1) .0);
       passed = λ c.
-          (let p = four-parts x₀ x₂ x₄ x₆ (or-parts (l .low) _ (c .0) .1) in
-          let q = four-parts x₁ x₃ x₅ x₇ (or-parts (l .high) _ (c .1) .1) in
+          (let p = four-parts x₀ x₄ x₂ x₆ (or-parts (l .low) _ (c .0) .1) in
+          let q = four-parts x₁ x₅ x₃ x₇ (or-parts (l .high) _ (c .1) .1) in
           z .passed (omega arith));
       kept = λ c h.
           (let s = z .kept h in (
-            or-none (l .low) _ (c .0) (four-none x₀ x₂ x₄ x₆ (omega arith, omega arith, omega arith, omega arith)),
-            or-none (l .high) _ (c .1) (four-none x₁ x₃ x₅ x₇ (omega arith, omega arith, omega arith, omega arith)),
+            or-none (l .low) _ (c .0) (four-none x₀ x₄ x₂ x₆ (omega arith, omega arith, omega arith, omega arith)),
+            or-none (l .high) _ (c .1) (four-none x₁ x₅ x₃ x₇ (omega arith, omega arith, omega arith, omega arith)),
           ));
+    }
+
+-- one block after another
+pub adds-adds : {b : List ℕ} {i : ℕ} (m n : ℕ) {l half r : Lanes} → Adds b i m l half → Adds b (i + m) n half r → Adds b i (m + n) l r
+adds-adds {b} {i} m n first second =
+    record {
+      before = λ c. first .before (second .before c);
+      passed = λ c j from to. either-side (i + m) j (λ below. first .passed (second .before c) j from below) (λ above. second .passed c j above (omega arith));
+      kept = λ c h. second .kept (first .kept c (λ j from to. h j from (omega arith))) (λ j from to. h j (omega arith) (omega arith));
     }
 
 -- ---- all bytes of a list
@@ -109,9 +125,42 @@ from-zero b from v passed kept =
     (λ h. all-zero (drop from b) (λ k. rw (getD-drop from b k 0) (passed (eqb-true v 0 h) (from + k) (omega arith))))
     (λ h. eq-eqb v 0 (kept (λ j le. (let e : from + (j - from) ≡ j = omega arith in rw e at (sym (getD-drop from b (j - from) 0) ∙ zero-all (drop from b) h (j - from))))))
 
--- below a number or from it on
-pub either-side : {A : Type 0} (i j : ℕ) → (j < i → A) → (i ≤ j → A) → A
-either-side {A} i j below above = side (leb i j) refl where
-  side : (t : Bool) → leb i j ≡ t → A
-  side true q = above (leb-true i j q)
-  side false q = below (leb-false i j q)
+-- ---- a loop over n bytes at a time that has seen the last n of them
+-- where P holds, the bytes passed are zero: those from one on up to i, and the last n
+pub record Passed (P : Type 0) (b : List ℕ) (from last n i : ℕ) : Type 0 where
+  pub last-zero : P → AreZero b last n
+  pub zeros : P → (j : ℕ) → from ≤ j → j < i → byteAt b j ≡ 0
+  pub kept : ((j : ℕ) → from ≤ j → byteAt b j ≡ 0) → P
+
+pub passed-none : {P : Type 0} {b : List ℕ} {from last n : ℕ} → from ≤ last → (P → AreZero b last n) → (AreZero b last n → P) → Passed P b from last n from
+passed-none le passed kept =
+    record {
+      last-zero = passed;
+      zeros = λ p j from to. absurd (omega arith);
+      kept = λ h. kept (λ j from to. h j (omega arith));
+    }
+
+pub passed-more : {P Q : Type 0} {b : List ℕ} {from last n i : ℕ} → from ≤ i → Passed P b from last n i → (Q → P) → (Q → AreZero b i n) → (P → AreZero b i n → Q) → Passed Q b from last n (i + n)
+passed-more {i = i} le p before passed kept =
+    record {
+      last-zero = λ q. p .last-zero (before q);
+      zeros = λ q j from to. either-side i j (λ below. p .zeros (before q) j from below) (λ above. passed q j above to);
+      kept = λ h. kept (p .kept h) (λ j from to. h j (omega arith));
+    }
+
+-- with the last n they are all there are
+pub passed-all : {P : Type 0} {b : List ℕ} {from last n i : ℕ} → last ≤ i → last + n ≡ length b → Passed P b from last n i → P → (j : ℕ) → from ≤ j → byteAt b j ≡ 0
+passed-all {b = b} {last = last} {n = n} {i = i} le whole p q j from =
+    either-side i j (λ below. p .zeros q j from below) (λ above.
+    either-side (last + n) j
+    (λ within. p .last-zero q j (omega arith) within)
+    (λ past. List·getD-eq-default b 0 {n = j} (omega arith)))
+
+-- the first n and the last n, where these reach each other
+pub both-ends : {b : List ℕ} (from last n x y : ℕ) → from ≤ last → last ≤ from + n → last + n ≡ length b → Zeros b from n x → Zeros b last n y → eqb (bitOr x y) 0 ≡ allZero (drop from b)
+both-ends {b} from last n x y le reach whole first end = from-zero b from (bitOr x y) (passed-all reach whole both) (both .kept) where
+  seen : Passed (y ≡ 0) b from last n from
+  seen = passed-none le (end .passed) (end .kept)
+
+  both : Passed (bitOr x y ≡ 0) b from last n (from + n)
+  both = passed-more (omega arith) seen (λ h. or-parts x y h .1) (λ h. first .passed (or-parts x y h .0)) (λ h zeros. or-none x y (first .kept zeros) h)

@@ -1,5 +1,6 @@
 pub mod Areas
 pub mod Back
+pub mod Heads
 pub mod Lent
 pub mod Body
 pub mod Blocks

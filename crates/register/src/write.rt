@@ -4,8 +4,10 @@ ghost use lib.ListN.{length, set};
 ghost use Prim.Native.Nat.{_+_, _<_, _≤_};
 ghost use Rattle.register.specs.Bytes.{putWord, putLong};
 ghost use Rattle.register.specs.Entries.{entryBytes, putEntry};
-ghost use Rattle.register.specs.Head.{putHead};
+ghost use Rattle.register.specs.Head.{meterBytes, putMeter, putCarry, putHead};
+use crate::head::Carry;
 use crate::head::Head;
+use crate::head::HeadSize;
 use terms::entry::Entry;
 use terms::entry::Kind;
 
@@ -33,13 +35,32 @@ fn put_long(bytes: &mut [u8], i: usize, v: u32)
     put_word(bytes, i + 2, (v / 65536) as u16);
 }
 
-// The head of an area.
-pub fn put_head(area: &mut [u8], head: Head)
-    ensures { λ _. ⌜ now (area .exit) ≡ putHead (now (area .entry)) head ⌝ }
+fn put_meter(area: &mut [u8], head: Head)
+    ensures { λ _. ⌜ now (area .exit) ≡ putMeter (now (area .entry)) head ⌝ }
 {
     put_byte(area, 0, Kind::METER);
     put_byte(area, 1, head.dials);
     put_long(area, 2, head.capacity);
+}
+
+fn put_carry(area: &mut [u8], carry: Carry)
+    ensures { λ _. ⌜ now (area .exit) ≡ putCarry (now (area .entry)) meterBytes carry ⌝ }
+{
+    let at = HeadSize::METER_BYTES;
+    put_byte(area, at, Kind::CARRY);
+    put_long(area, at + 1, carry.first);
+    put_word(area, at + 5, carry.folded);
+    put_word(area, at + 7, carry.flagged);
+}
+
+// The head of an area.
+pub fn put_head(area: &mut [u8], head: Head)
+    ensures { λ _. ⌜ now (area .exit) ≡ putHead (now (area .entry)) head ⌝ }
+{
+    put_meter(area, head);
+    if head.carried {
+        put_carry(area, head.carry);
+    }
 }
 
 // An entry where all of its bytes are lent, with no test for each of them.

@@ -10,7 +10,7 @@ use lib.ListN.{length}
 use Rattle.register.specs.Bytes.{byteAt}
 use Rattle.calls.specs.declared.call.Call.{Call}
 use Rattle.sheet.specs.declared.form.Form.{Form}
-use Rattle.sheet.specs.declared.form.Form.the-variants.{Enrol, Submit, Withdraw, Report}
+use Rattle.sheet.specs.declared.form.Form.the-variants.{Enrol, Submit, Withdraw, Report, Fold}
 use Rattle.sheet.specs.declared.form.Kind.{Kind}
 use Rattle.sheet.specs.declared.form.Kind.the-variants.{Known, Unknown}
 use Rattle.sheet.specs.declared.split.Next.{Next}
@@ -47,6 +47,7 @@ some-body Enrol = omega arith
 some-body Submit = omega arith
 some-body Withdraw = omega arith
 some-body Report = omega arith
+some-body Fold = omega arith
 
 module _ (sheet : List ℕ) (at : ℕ) where
   data Within : Next → Type 0 where

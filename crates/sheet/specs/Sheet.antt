@@ -9,7 +9,7 @@ use Rattle.register.specs.Bytes.{byteAt, wordAt, longAt}
 use Rattle.calls.specs.declared.call.Call.{Call}
 use Rattle.calls.specs.declared.call.Call.the-variants as call
 use Rattle.sheet.specs.declared.form.Form.{Form}
-use Rattle.sheet.specs.declared.form.Form.the-variants.{Enrol, Submit, Withdraw, Report}
+use Rattle.sheet.specs.declared.form.Form.the-variants.{Enrol, Submit, Withdraw, Report, Fold}
 use Rattle.sheet.specs.declared.form.Kind.{Kind}
 use Rattle.sheet.specs.declared.form.Kind.the-variants.{Known, Unknown}
 use Rattle.sheet.specs.declared.split.Next.{Next}
@@ -17,16 +17,17 @@ use Rattle.sheet.specs.declared.split.Next.the-variants.{Found, End, Fau
 
 -- ---- kinds and bodies, a row for each form
 
--- the paper's number for each form: "1 enrol", "2 submit", "3 withdraw", "4 report"
+-- the paper's number for each form: "1 enrol", "2 submit", "3 withdraw", "4 report"; 02, 2: "sheet kind 5"
 unfoldable pub kindByte : Form → ℕ
 kindByte Enrol = 1
 kindByte Submit = 2
 kindByte Withdraw = 3
 kindByte Report = 4
+kindByte Fold = 5
 
 -- all of them
 abbrev pub forms : List Form
-forms = Enrol ∷ Submit ∷ Withdraw ∷ Report ∷ []
+forms = Enrol ∷ Submit ∷ Withdraw ∷ Report ∷ Fold ∷ []
 
 -- how long a body is, field by field
 abbrev pub bodyBytes : Form → ℕ
@@ -34,6 +35,7 @@ bodyBytes Enrol = 1 + 1 + 4
 bodyBytes Submit = 1 + 2 + 2 + 4 + 1 + 1 + 1
 bodyBytes Withdraw = 1 + 2 + 4
 bodyBytes Report = 1
+bodyBytes Fold = 1
 
 -- the call of a body that starts at i
 unfoldable pub callAt : Form → List ℕ → ℕ → Call
@@ -54,6 +56,8 @@ callAt Submit sheet i =
 callAt Withdraw sheet i = call.Withdraw (byteAt sheet i) (wordAt sheet (i + 1)) (longAt sheet (i + 3))
 -- "4 report (place 1)"
 callAt Report sheet i = call.Report (byteAt sheet i)
+-- 02, 2: "A fold (place; sheet kind 5)"
+callAt Fold sheet i = call.Fold (byteAt sheet i)
 
 -- ---- an entry
 

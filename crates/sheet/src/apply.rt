@@ -3,6 +3,7 @@ ghost use mathlib.Core.Path.{_≡_};
 ghost use Rattle.calls.specs.Calls.{done, step};
 use calls::call::Call;
 use calls::call::Reply;
+use fold::fold::fold;
 use meter::enrol::enrol;
 use meter::report::report;
 use meter::withdraw::withdraw;
@@ -25,5 +26,6 @@ pub fn apply(register: &mut [u8], call: Call) -> Reply
             value,
         )),
         Call::Report { place } => Reply::Reported(report(register, place)),
+        Call::Fold { place } => Reply::Answered(fold(register, place)),
     }
 }

@@ -68,6 +68,14 @@ fn report_at(sheet: &[u8], i: usize) -> Call
     Call::Report { place }
 }
 
+fn fold_at(sheet: &[u8], i: usize) -> Call
+    requires { ⌜ i + bodyBytes Form.Fold ≤ length (now sheet) ⌝ }
+    ensures { λ r. ⌜ r ≡ callAt Form.Fold (now (sheet .entry)) i ⌝ }
+{
+    let place = place_at(sheet, i);
+    Call::Fold { place }
+}
+
 pub(crate) fn call_at(sheet: &[u8], form: Form, i: usize) -> Call
     requires { ⌜ i + bodyBytes form ≤ length (now sheet) ⌝ }
     ensures { λ r. ⌜ r ≡ callAt form (now (sheet .entry)) i ⌝ }
@@ -77,5 +85,6 @@ pub(crate) fn call_at(sheet: &[u8], form: Form, i: usize) -> Call
         Form::Submit => submit_at(sheet, i),
         Form::Withdraw => withdraw_at(sheet, i),
         Form::Report => report_at(sheet, i),
+        Form::Fold => fold_at(sheet, i),
     }
 }

@@ -8,6 +8,7 @@ pub enum Form {
     Submit,
     Withdraw,
     Report,
+    Fold,
 }
 
 // What a kind byte says: the form, if there is one of that number.
@@ -24,6 +25,7 @@ pub fn kind_of(byte: u8) -> Kind
         2 => Kind::Known(Form::Submit),
         3 => Kind::Known(Form::Withdraw),
         4 => Kind::Known(Form::Report),
+        5 => Kind::Known(Form::Fold),
         _ => Kind::Unknown,
     }
 }
@@ -37,5 +39,6 @@ pub fn body_bytes(form: Form) -> u8
         Form::Submit => 12,
         Form::Withdraw => 7,
         Form::Report => 1,
+        Form::Fold => 1,
     }
 }

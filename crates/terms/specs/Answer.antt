@@ -8,7 +8,7 @@ use Rattle.terms.specs.Number.{accepted}
 abbrev pub answer : ℕ → ℕ → ℤ → Answer
 answer number flag advance = record { number = number; flag = flag; advance = advance }
 
--- "zeros for an accepted enrolment"
+-- "zeros for an accepted enrolment"; 02, 2: "Fold answers flag 0 and advance 0"
 abbrev pub acceptance : Answer
 acceptance = answer accepted 0 (pos 0)
 

@@ -81,3 +81,10 @@ plate = 25
 
 abbrev pub sheetFault : ℕ
 sheetFault = 26
+
+-- 02, 2
+abbrev pub noFold : ℕ
+noFold = 27
+
+abbrev pub oldestKept : ℕ
+oldestKept = 28

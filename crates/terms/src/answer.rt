@@ -3,7 +3,7 @@ ghost use mathlib.Core.Path.{_≡_};
 ghost use Rattle.terms.specs.Answer.{acceptance, refusal, refusedReport};
 use crate::number::Number;
 
-// An enrolment, a submission or a withdrawal.
+// An enrolment, a submission, a withdrawal or a fold.
 pub struct Answer {
     pub number: u8,
     pub flag: u8,

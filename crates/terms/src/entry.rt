@@ -11,6 +11,8 @@ impl Kind {
     pub const WITHDRAWN: u8 = 3;
 
     pub const HELD: u8 = 4;
+
+    pub const CARRY: u8 = 5;
 }
 
 // A standing, withdrawn or held read as the journal stores it: the kind and its body.

@@ -55,4 +55,8 @@ impl Number {
     pub const PLATE: u8 = 25;
 
     pub const SHEET: u8 = 26;
+
+    pub const NO_FOLD: u8 = 27;
+
+    pub const OLDEST_KEPT: u8 = 28;
 }

@@ -4,8 +4,6 @@ use mathlib.Core.Bool.{Bool, not, _&&_, _||_, cond}
 use Prim.Native.Nat.{ℕ}
 use lib.Dec.{ltb}
 use Rattle.terms.specs.declared.entry.Entry.{Entry}
-use Rattle.terms.specs.declared.entry.Slot.{Slot}
-use Rattle.terms.specs.declared.entry.Slot.the-variants.{Read, Empty}
 use Rattle.terms.specs.Letter.{isOpening, isHoldable}
 use Rattle.terms.specs.Entry.{isStanding, isHeld}
 use Rattle.register.specs.declared.head.Head.{Head}
@@ -20,8 +18,3 @@ followsBy head e stands last held ended =
     && cond (isStanding e)
     (standsBy head e stands last && not (isFinalRead e && ended))
     (not (isHeld e) || (isHoldable (e .letter) && ((stands && ltb last (e .day)) && not (isFinalRead e && ended))))
-
--- the day of a read, and 0 where there is none
-unfoldable pub dayOf : Slot → ℕ
-dayOf (Read e) = e .day
-dayOf Empty = 0

@@ -60,12 +60,19 @@ judged area =
     Damaged
     (cond (allZero area) Zero (cond (isSound area) (Sound (summaryOf (journalOf area))) Damaged))
 
--- a body that follows a head
+-- a body that follows a head: how many entries it has, and whether they are sound and zeros follow them
+abbrev pub countIn : Head → List ℕ → ℕ
+countIn head body = countFrom (mostEntries head) 0 body
+
+unfoldable pub isWhole : Head → List ℕ → Bool
+isWhole head body =
+    allZero (drop (entryStart (countIn head body)) body)
+    && areSound head (entriesTo (countIn head body) body)
+
 unfoldable pub judgedBody : Head → List ℕ → Judged
 judgedBody head body =
-    let es : List Entry = entriesTo (countFrom (mostEntries head) 0 body) body in
-    cond (allZero (drop (entryStart (countFrom (mostEntries head) 0 body)) body) && areSound head es)
-    (Sound (summaryOf (record { head = head; entries = es })))
+    cond (isWhole head body)
+    (Sound (summaryOf (record { head = head; entries = entriesTo (countIn head body) body })))
     Damaged
 
 -- what a judgement answers: what was found, and with it the number of the area

@@ -28,6 +28,7 @@ pub record IsLimits (head : Head) (l : Limits) : Type 0 where
   pub limit : l .limit ≡ tenTo (head .dials)
   pub most : l .most ≡ mostEntries head
   pub letters : (letter : ℕ) → hasLetter (l .letters) letter ≡ true → PlainLetter head letter
+  pub carried : l .carried ≡ head .carried
 
 -- a body that may follow whatever stands, after the day of the last standing read
 pub record PlainBody (l : Limits) (last : ℕ) (e : Entry) : Type 0 where

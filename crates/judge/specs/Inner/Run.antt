@@ -5,8 +5,7 @@ use lib.ListN.{length}
 use Rattle.terms.specs.declared.entry.Entry.{Entry}
 use Rattle.terms.specs.Entry.{those, slotAt}
 use Rattle.judge.specs.declared.run.Run.{Run}
-use Rattle.journal.specs.Journal.{standing, isFlagged, firstValue, newestAt}
-use Rattle.journal.specs.Inner.Loops.{dayOf}
+use Rattle.journal.specs.Journal.{standing, isFlagged, firstValue, newestAt, dayOf}
 
 -- the day of the last standing read, and 0 where none stands
 abbrev pub lastDay : List Entry → ℕ

@@ -12,7 +12,7 @@ is-plate-requires c κs = search needs
 
 returns : tie.Need-returns
 unfolding isHead
-returns c = cc
+returns c = rw (c .is-plate .ensures, c .before .before .before .pre .1)
 
 pub is-head-spec : {M : Type 1} → statement M
 is-head-spec = tie.close (tie.spec shared-slice-read-result is-plate-requires returns)

@@ -13,7 +13,7 @@ use Rattle.register.proofs.Body.{body-length, body-lent, lent-room}
 use Rattle.judge.specs.declared.area.Judged.the-variants.{Damaged}
 use Rattle.journal.specs.Journal.{entryCount, journalOf}
 use Rattle.journal.specs.Sound.{isHead, isSound}
-use Rattle.judge.specs.Inner.Judged.{judged, judgedBody}
+use Rattle.judge.specs.Inner.Judged.{judged, isWhole, judgedBody}
 use Rattle.judge.proofs.Verdicts.{damaged-answers}
 use Rattle.judge.proofs.area.judge_journal.Statement.{statement}
 use Rattle.judge.proofs.area.judge_journal.Tie as tie
@@ -24,7 +24,7 @@ module _ (a : List ℕ) (known : (length a ≡ areaBytes) × (allZero a ≡ fals
   headless h = rw (known .0, known .1, h)
 
   by-body : isHead a ≡ true → judged a ≡ judgedBody (headOf a) (bodyOf a)
-  unfolding judged isSound judgedBody entryCount journalOf
+  unfolding judged isSound judgedBody isWhole entryCount journalOf
   by-body h = rw (known .0, known .1, h)
 
 -- where the body starts

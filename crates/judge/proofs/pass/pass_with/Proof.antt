@@ -33,7 +33,7 @@ returns c =
         pass-more head (follow .before .before .before .args .pass .apart),
         ← h,
         counted .count .ensures es (pass-run head _ es h),
-        follow .may-follow .ensures head l,
+        follow .may-follow .ensures head (l .limit) (l .carried),
         s .is-standing .ensures,
         held .is-held .ensures,
         final .is-final .ensures,

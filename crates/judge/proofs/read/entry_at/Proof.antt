@@ -42,7 +42,7 @@ shared-slice-read-t16 c = search needs
 
 returns : tie.Need-returns
 unfolding entryAt
-returns c = cc
+returns c = let read = c .before .before .before .before in rw (read .before .word-at .ensures, read .long-at .ensures)
 
 pub entry-at-spec : {M : Type 1} → statement M
 entry-at-spec =

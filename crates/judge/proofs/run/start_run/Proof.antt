@@ -1,7 +1,6 @@
 use mathlib.Core.Path.{refl}
 use Rattle.terms.specs.Entry.{those, slotAt}
-use Rattle.journal.specs.Journal.{firstValue, newestAt}
-use Rattle.journal.specs.Inner.Loops.{dayOf}
+use Rattle.journal.specs.Journal.{firstValue, newestAt, dayOf}
 use Rattle.judge.specs.Inner.Run.{runOf}
 use Rattle.judge.proofs.run.start_run.Statement.{statement}
 use Rattle.judge.proofs.run.start_run.Tie as tie

@@ -17,14 +17,17 @@ use borrow.Author.Needs.{needs}
 use Rattle.meter.proofs.enrol.enrol_in.Statement.{statement}
 use Rattle.meter.proofs.enrol.enrol_in.Tie as tie
 
-module _ (head : Head) (area : List ℕ) {number : ℕ} (check : number ≡ firstBroken (enrolChecks head area)) where
-  stays : number ≢ accepted → {r : Answer} → r ≡ refusal number → acted (Answered r) area ≡ enrolIn head area
+module _ (plate : Head) (area : List ℕ) {head : Head} (is : head ≡ plate) {number : ℕ} (check : number ≡ firstBroken (enrolChecks head area)) where
+  stays : number ≢ accepted → {r : Answer} → r ≡ refusal number → acted (Answered r) area ≡ enrolIn plate area
   unfolding enrolIn
-  stays h r = rw (r, ← check, ne-eqb _ _ h)
+  stays h r = rw (← is, r, ← check, ne-eqb _ _ h)
 
-  enrols : number ≡ accepted → {r : Answer} {after : List ℕ} → r ≡ acceptance → after ≡ putHead area head → acted (Answered r) after ≡ enrolIn head area
+  enrols : number ≡ accepted → {r : Answer} {after : List ℕ} → r ≡ acceptance → after ≡ putHead area head → acted (Answered r) after ≡ enrolIn plate area
   unfolding enrolIn
-  enrols h r after = rw (r, after, ← check, h)
+  enrols h r after = rw (← is, r, after, ← check, h)
+
+plate-requires : tie.Need-plate-requires
+plate-requires c κs = search needs
 
 check-enrolment-requires : tie.Need-check-enrolment-requires
 check-enrolment-requires c κs = search needs
@@ -36,7 +39,9 @@ same-length : tie.Need-same-length
 same-length c = search needs
 
 returns : tie.Need-returns
-returns c = stays _ _ (c .before .before .check-enrolment .ensures) (c .before .if1 .taken) (c .refuse .ensures)
+returns c =
+    let check = c .before .before in
+    stays _ _ (check .before .before .plate .ensures) (check .check-enrolment .ensures) (c .before .if1 .taken) (c .refuse .ensures)
 
 put-head-requires : tie.Need-put-head-requires
 put-head-requires c κs = search needs
@@ -51,12 +56,14 @@ returns-2 : tie.Need-returns-2
 returns-2 c =
     let put = c .before .before .before in
     let e = put .before .before in
-    enrols _ _ (e .before .check-enrolment .ensures) (e .if1 .left) (c .accept .ensures) (put .put-head .ensures)
+    let check = e .before in
+    enrols _ _ (check .before .before .plate .ensures) (check .check-enrolment .ensures) (e .if1 .left) (c .accept .ensures) (put .put-head .ensures)
 
 pub enrol-in-spec : {M : Type 1} → statement M
 enrol-in-spec =
     tie.close
     (tie.spec
+    plate-requires
     check-enrolment-requires
     refuse-requires
     same-length

@@ -1,15 +1,20 @@
 -- The last standing read stands, so the definition's first test fails where its second does; else both stand in its order.
 use mathlib.Core.Path.{_≡_, sym, _∙_}
-use mathlib.Core.Bool.{true, false}
+use mathlib.Core.Bool.{true, false, _&&_}
 use mathlib.Core.List.{List, [], _∷_}
 use Prim.Native.Nat.{ℕ}
 use borrow.Author.Tests.{not-false}
+use lib.Dec.{eqb}
+use lib.ListN.{length}
 use Rattle.terms.specs.declared.entry.Entry.{Entry}
 use Rattle.terms.specs.Entry.{slotAt}
-use Rattle.journal.specs.Journal.{journalOf, standing}
+use Rattle.journal.specs.Journal.{Journal, journalOf, standing, oldestOf}
+use Rattle.judge.specs.declared.area.Summary.{Summary}
+use Rattle.judge.specs.Inner.Judged.{countsOf, summaryOf}
 use Rattle.journal.specs.Sound.{any, hasRead}
 use Rattle.journal.proofs.Bools.{false-is}
-use Rattle.calls.specs.Checks.{isNotStanding, isNotLast, withdrawRules}
+use Rattle.calls.specs.Checks.{isNotStanding, isNotLast, isOldestKept, withdrawRules}
+use Rattle.calls.proofs.Days.{alone-oldest}
 use borrow.Author.Needs.{needs}
 use Rattle.meter.proofs.withdraw.check_withdrawal.Statement.{statement}
 use Rattle.meter.proofs.withdraw.check_withdrawal.Tie as tie
@@ -45,12 +50,32 @@ returns-2 : tie.Need-returns-2
 unfolding withdrawRules isNotStanding
 returns-2 c = rw (standing-is (c .before), c .if2 .left)
 
+-- the read is the last: whether it is the oldest too
+counted-alone : (j : Journal) (t : Summary) → t ≡ summaryOf j → j .head .carried && eqb (length (standing (j .entries))) 1 ≡ t .head .carried && eqb (t .counts .standing) 1
+unfolding summaryOf countsOf
+counted-alone j t e = rw e
+
+module _ (c : tie.After-struct-known2) where
+  abbrev there : tie.After-is-not-last
+  there = c .before .before .before .before .before
+
+  abbrev reads : List Entry
+  reads = standing (journalOf (start there .args .area .now) .entries)
+
+  last : isNotLast (start there .args .day) (start there .args .value) (slotAt reads 0) ≡ false
+  last = last-is there ∙ c .before .before .before .before .if1 .left
+
+  oldest : isOldestKept (start there .args .day) (start there .args .value) (journalOf (start there .args .area .now) .head) (oldestOf reads) ≡ start there .args .t .head .carried && eqb (start there .args .t .counts .standing) 1
+  oldest = alone-oldest _ _ _ (start there .pre .sound) last ∙ counted-alone _ _ (start there .pre .summary)
+
 returns-3 : tie.Need-returns-3
 unfolding withdrawRules isNotStanding
-returns-3 c =
-    let last = last-is (c .before) ∙ c .if1 .left in
-    rw (last-stands _ _ _ last, last)
+returns-3 c = rw (last-stands _ _ _ (last (c .before)), last (c .before), oldest (c .before), c .if3 .taken)
+
+returns-4 : tie.Need-returns-4
+unfolding withdrawRules isNotStanding
+returns-4 c = rw (last-stands _ _ _ (last (c .before)), last (c .before), oldest (c .before), c .if3 .left)
 
 pub check-withdrawal-spec : {M : Type 1} → statement M
 check-withdrawal-spec =
-    tie.close (tie.spec is-not-last-requires has-standing-requires returns returns-2 returns-3)
+    tie.close (tie.spec is-not-last-requires has-standing-requires returns returns-2 returns-3 returns-4)

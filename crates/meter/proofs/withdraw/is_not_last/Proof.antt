@@ -9,9 +9,8 @@ use lib.Dec.{eqb, ltb}
 use lib.ListN.{length}
 use Rattle.terms.specs.declared.entry.Entry.{Entry}
 use Rattle.terms.specs.Entry.{slotAt}
-use Rattle.journal.specs.Journal.{standing}
+use Rattle.journal.specs.Journal.{standing, dayOf}
 use Rattle.journal.specs.Sound.{hasRead}
-use Rattle.journal.specs.Inner.Loops.{dayOf}
 use Rattle.judge.specs.Inner.Judged.{countsOf, valueOf, summaryOf}
 use Rattle.calls.specs.Checks.{isNotLast}
 use Rattle.meter.proofs.withdraw.is_not_last.Statement.{statement}

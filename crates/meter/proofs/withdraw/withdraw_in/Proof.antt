@@ -92,11 +92,11 @@ offset-after-requires c κs = search needs
 offset-after-requires-2 : tie.Need-offset-after-requires-2
 offset-after-requires-2 c κs = search needs
 
-mark-withdrawn-requires : tie.Need-mark-withdrawn-requires
-mark-withdrawn-requires c κs = search needs
-
 withdrawn-answer-requires : tie.Need-withdrawn-answer-requires
 withdrawn-answer-requires c κs = search needs
+
+mark-withdrawn-requires : tie.Need-mark-withdrawn-requires
+mark-withdrawn-requires c κs = search needs
 
 same-length : tie.Need-same-length
 same-length c = search needs
@@ -111,8 +111,9 @@ same-length-2 c = search needs
 
 returns-2 : tie.Need-returns-2
 returns-2 c =
-    let m = c .before .before .before in
-    let end = m .before .before .before .before in
+    let m = c .before .before in
+    let answer = m .before .before .before .before in
+    let end = answer .before in
     let second = end .before .before in
     let last = second .before .before in
     let taken = last .before .before .before .before .before in
@@ -126,7 +127,7 @@ returns-2 c =
     decision
     (last .last .ensures is)
     (second .second .ensures is)
-    (c .withdrawn-answer .ensures)
+    (answer .withdrawn-answer .ensures)
     (held-counted _ is)
     (end .before .offset-after .ensures)
     (end .offset-after2 .ensures)
@@ -144,8 +145,8 @@ withdraw-in-spec =
     second-requires
     offset-after-requires
     offset-after-requires-2
-    mark-withdrawn-requires
     withdrawn-answer-requires
+    mark-withdrawn-requires
     same-length
     returns
     same-length-2

@@ -7,8 +7,7 @@ use native.Mathlib.Omega.{arith}
 use borrow.Author.Tests.{not-true, not-false}
 use Rattle.terms.specs.declared.entry.Entry.{Entry}
 use Rattle.terms.specs.Entry.{slotAt}
-use Rattle.journal.specs.Journal.{journalOf, standing, onDay}
-use Rattle.journal.specs.Inner.Loops.{dayOf}
+use Rattle.journal.specs.Journal.{journalOf, standing, onDay, dayOf}
 use Rattle.judge.specs.Inner.Judged.{Counted}
 use Rattle.journal.proofs.Bools.{false-is}
 use Rattle.reads.specs.Inner.Room.{hasRoom}

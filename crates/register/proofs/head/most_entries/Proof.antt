@@ -8,5 +8,9 @@ returns : tie.Need-returns
 unfolding mostEntries
 returns c = search needs
 
+returns-2 : tie.Need-returns-2
+unfolding mostEntries
+returns-2 c = search needs
+
 pub most-entries-spec : {M : Type 1} → statement M
-most-entries-spec = tie.close (tie.spec returns)
+most-entries-spec = tie.close (tie.spec returns returns-2)

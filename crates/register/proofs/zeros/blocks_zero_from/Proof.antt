@@ -1,16 +1,14 @@
--- What is passed is zero where the lanes are; with the last 64 bytes it is all there is.
+-- What is passed is zero where the lanes are; with the last block it is all there is.
 use mathlib.Core.Path.{_≡_, refl}
-use Prim.Native.Nat.{ℕ, _+_, _-_, _≤_, _<_}
+use Prim.Native.Nat.{_+_, _-_, _≤_}
 use native.Mathlib.Omega.{arith}
-use lib.ListN.{List·getD-eq-default}
-use Rattle.register.specs.Bytes.{byteAt}
-use Rattle.register.specs.Inner.Zeros.{AreZero, Clear}
-use Rattle.register.proofs.Blocks.{or-parts, or-none, from-zero, either-side}
+use Rattle.register.specs.Inner.Zeros.{Clear}
+use Rattle.register.proofs.Blocks.{or-parts, or-none, from-zero, Passed, passed-none, passed-more, passed-all}
 use Rattle.register.proofs.zeros.blocks_zero_from.Statement.{statement}
 use Rattle.register.proofs.zeros.blocks_zero_from.Tie as tie
 
 abbrev Inv-loop : tie.InvT-loop
-Inv-loop bytes from last lanes₀ i₀ lanes i = (from ≤ i) × (Clear lanes → AreZero bytes last 64) × (Clear lanes → (j : ℕ) → from ≤ j → j < i → byteAt bytes j ≡ 0) × (((j : ℕ) → from ≤ j → byteAt bytes j ≡ 0) → Clear lanes)
+Inv-loop bytes from last lanes₀ i₀ lanes i = (from ≤ i) × Passed (Clear lanes) bytes from last 128 i
 
 abbrev μ-loop : tie.MeasureT-loop
 μ-loop bytes from last lanes₀ i₀ lanes i = last - i
@@ -21,8 +19,7 @@ block-at-requires c κs = omega (arith, c .before .pre .1)
 loop-holds : tie.Need-loop-holds Inv-loop μ-loop
 loop-holds c =
     let adds = c .block-at .ensures in
-    let start = c .before .before in
-    (omega arith, adds .passed, λ clear j from to. absurd (omega arith), λ h. adds .kept (refl, refl) (λ j from to. h j (omega (arith, start .pre .0))))
+    (omega arith, passed-none (c .before .before .pre .0) (adds .passed) (adds .kept (refl, refl)))
 
 block-at-requires-2 : tie.Need-block-at-requires-2 Inv-loop μ-loop
 block-at-requires-2 c κs = omega (arith, c .loop-test .taken, c .before .before .before .before .pre .1)
@@ -36,13 +33,8 @@ loop-less c = omega (arith, c .before .loop-test .taken)
 loop-again : tie.Need-loop-again Inv-loop μ-loop
 loop-again c =
     let adds = c .block-at2 .ensures in
-    let loop = c .before .before in
-    let inv = loop .loop .inv in (
-      omega (arith, inv .0),
-      λ clear. inv .1 (adds .before clear),
-      λ clear j from to. either-side (loop .loop .i) j (λ below. inv .2 (adds .before clear) j from below) (λ above. adds .passed clear j above to),
-      λ h. adds .kept (inv .3 h) (λ j from to. h j (omega (arith, inv .0))),
-    )
+    let inv = c .before .before .loop .inv in
+    (omega (arith, inv .0), passed-more (inv .0) (inv .1) (adds .before) (adds .passed) (adds .kept))
 
 returns : tie.Need-returns Inv-loop μ-loop
 returns c =
@@ -54,13 +46,8 @@ returns c =
     _
     _
     _
-    (λ h j from.
-    (let clear = or-parts (loop .loop .lanes .low) (loop .loop .lanes .high) h in
-    either-side (loop .loop .i) j (λ below. inv .2 clear j from below) (λ above.
-    either-side (start .args .last + 64) j
-    (λ within. inv .1 clear j (omega (arith, left .loop-test .left)) within)
-    (λ past. List·getD-eq-default (start .args .bytes .now) 0 {n = j} (omega (arith, start .pre .1))))))
-    (λ h. (let clear = inv .3 h in or-none (loop .loop .lanes .low) (loop .loop .lanes .high) (clear .0) (clear .1)))
+    (λ h. passed-all (left .loop-test .left) (start .pre .1) (inv .1) (or-parts (loop .loop .lanes .low) (loop .loop .lanes .high) h))
+    (λ h. (let clear = inv .1 .kept h in or-none (loop .loop .lanes .low) (loop .loop .lanes .high) (clear .0) (clear .1)))
 
 pub blocks-zero-from-spec : {M : Type 1} → statement M
 blocks-zero-from-spec =

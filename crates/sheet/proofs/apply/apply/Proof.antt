@@ -27,6 +27,12 @@ enum-known-call-4 c = search needs
 report-requires : tie.Need-report-requires
 report-requires c κs = search needs
 
+enum-known-call-5 : tie.Need-enum-known-call-5
+enum-known-call-5 c = search needs
+
+fold-requires : tie.Need-fold-requires
+fold-requires c κs = search needs
+
 same-length : tie.Need-same-length
 same-length c = search needs
 
@@ -57,6 +63,14 @@ same-length-4 c = search needs
 returns-4 : tie.Need-returns-4
 returns-4 c = rw (c .before .before .before .call4 .given .1) (c .report .ensures)
 
+same-length-5 : tie.Need-same-length-5
+same-length-5 c = search needs
+
+returns-5 : tie.Need-returns-5
+returns-5 c =
+    let called = c .before .before in
+    rw (called .before .before .before .call5 .given .1) (called .fold .ensures)
+
 pub apply-spec : {M : Type 1} → statement M
 apply-spec =
     tie.close
@@ -69,6 +83,8 @@ apply-spec =
     withdraw-requires
     enum-known-call-4
     report-requires
+    enum-known-call-5
+    fold-requires
     same-length
     returns
     same-length-2
@@ -76,4 +92,6 @@ apply-spec =
     same-length-3
     returns-3
     same-length-4
-    returns-4)
+    returns-4
+    same-length-5
+    returns-5)

@@ -27,6 +27,12 @@ enum-told-4 c = search needs
 report-at-requires : tie.Need-report-at-requires
 report-at-requires c κs = rw (c .enum-told4 .given .1) at (c .before .before .before .pre)
 
+enum-told-5 : tie.Need-enum-told-5
+enum-told-5 c = search needs
+
+fold-at-requires : tie.Need-fold-at-requires
+fold-at-requires c κs = rw (c .enum-told5 .given .1) at (c .before .before .before .pre)
+
 returns : tie.Need-returns
 returns c = rw (c .before .enum-told .given .1) (c .enrol-at .ensures)
 
@@ -38,6 +44,9 @@ returns-3 c = rw (c .before .enum-told3 .given .1) (c .withdraw-at .ensures)
 
 returns-4 : tie.Need-returns-4
 returns-4 c = rw (c .before .enum-told4 .given .1) (c .report-at .ensures)
+
+returns-5 : tie.Need-returns-5
+returns-5 c = rw (c .before .enum-told5 .given .1) (c .fold-at .ensures)
 
 pub call-at-spec : {M : Type 1} → statement M
 call-at-spec =
@@ -51,7 +60,10 @@ call-at-spec =
     withdraw-at-requires
     enum-told-4
     report-at-requires
+    enum-told-5
+    fold-at-requires
     returns
     returns-2
     returns-3
-    returns-4)
+    returns-4
+    returns-5)
