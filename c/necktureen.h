@@ -1,11 +1,12 @@
 /* Necktureen, a validator of water meter reads, for C99 and C++. Link with libnecktureen.a, which
- * `rt staticlib necktureen` writes to target/staticlib: code for x86-64 that needs no other library.
+ * `rt staticlib necktureen` writes to target/staticlib: code for x86-64 that needs no library but the C library's memcpy
+ * and memset.
  *
  * A register is NECKTUREEN_REGISTER_BYTES bytes that the caller lends, all zero at first; place p's meter has the
  * NECKTUREEN_AREA_BYTES bytes from NECKTUREEN_AREA_BYTES * p on. A function that takes a register takes it as a pointer
- * and its length, whatever that is and whatever the bytes are. Enrol, submit, withdraw and report answer one of the
- * numbers below. A number other than 0 changes no byte of the register and puts zeros in the other fields; 19 and 20
- * store the held read.
+ * and its length, whatever that is and whatever the bytes are. Enrol, submit, withdraw, fold and report answer one of
+ * the numbers below. A number other than 0 changes no byte of the register and puts zeros in the other fields; 19 and
+ * 20 store the held read.
  *
  * Pointers: a pointer and its length belong together. What is written (register, text, the other fields) is valid, apart
  * from each other and from all else that is lent. No pointer is kept, nothing is allocated, and nothing is remembered
@@ -26,9 +27,9 @@
 extern "C" {
 #endif
 
-#define NECKTUREEN_VERSION "0.3.0"
+#define NECKTUREEN_VERSION "0.4.0"
 #define NECKTUREEN_VERSION_MAJOR 0
-#define NECKTUREEN_VERSION_MINOR 3
+#define NECKTUREEN_VERSION_MINOR 4
 #define NECKTUREEN_VERSION_PATCH 0
 
 #define NECKTUREEN_REGISTER_BYTES 32768
@@ -69,7 +70,9 @@ enum necktureen_number {
     NECKTUREEN_NOT_LAST = 23,
     NECKTUREEN_ENROLLED = 24,
     NECKTUREEN_PLATE = 25,
-    NECKTUREEN_SHEET = 26
+    NECKTUREEN_SHEET = 26,
+    NECKTUREEN_NO_FOLD = 27,
+    NECKTUREEN_OLDEST_KEPT = 28
 };
 
 /* The word of a number; "unknown" for one that is not in the table. */
@@ -101,7 +104,9 @@ static inline const char *necktureen_word(unsigned number) {
         "not last",
         "enrolled",
         "plate",
-        "sheet"
+        "sheet",
+        "no fold",
+        "oldest kept"
     };
     return number < sizeof words / sizeof words[0] ? words[number] : "unknown";
 }
@@ -138,11 +143,17 @@ uint8_t necktureen_submit(uint8_t *reg, size_t length, uint16_t place, uint16_t 
                           uint8_t letter, uint8_t indicator, uint8_t reread, uint8_t *flag, int64_t *advance);
 
 /* Withdraws the last standing read, named by its day and value. Accepted, it answers the read's flag and its advance
- * negated. */
+ * negated. The oldest read that a fold kept is not withdrawn. */
 uint8_t necktureen_withdraw(uint8_t *reg, size_t length, uint16_t place, uint16_t day, uint32_t value, uint8_t *flag,
                             int64_t *advance);
 
-/* Reports how many reads stand, how many of them are flagged, and the total from the first to the last. */
+/* Folds the standing reads but the last three into a carry, which a later fold adds to, and drops the withdrawn reads
+ * dated no later than the oldest read that is kept: it makes room in a journal of 50 entries. A report is the same
+ * before and after; every check sees the reads that are kept alone. 0, 2, 3, 4 or 27; flag and advance are 0. */
+uint8_t necktureen_fold(uint8_t *reg, size_t length, uint16_t place, uint8_t *flag, int64_t *advance);
+
+/* Reports how many reads stand, folded ones among them, how many of these are flagged, and the total from the first to
+ * the last. */
 uint8_t necktureen_report(const uint8_t *reg, size_t length, uint16_t place, uint16_t *standing, uint16_t *flagged,
                           int64_t *total);
 

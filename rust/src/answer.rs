@@ -3,15 +3,15 @@
 use crate::Number;
 use core::fmt;
 
-/// The answer to an enrolment, a submission or a withdrawal. Flag and advance are 0 unless accepted.
+/// The answer to an enrolment, a submission, a withdrawal or a fold. Flag and advance are 0 unless accepted.
 #[derive(Clone, Copy, Debug, PartialEq, Eq)]
 #[must_use = "an answer may be a refusal"]
 pub struct Answer {
     /// Accepted, or the first rule broken.
     pub number: Number,
-    /// 1 if the read was taken as a rollover, else 0.
+    /// 1 if the read was taken as a rollover, else 0. Enrolment and fold have no read.
     pub flag: u8,
-    /// How far the dials went, in m³; a withdrawal answers it negated.
+    /// How far the dials went, in m³; a withdrawal answers it negated. 0 for enrolment and fold.
     pub advance: i64,
 }
 
@@ -21,7 +21,7 @@ pub struct Answer {
 pub struct Report {
     /// Accepted, or why there is nothing to report.
     pub number: Number,
-    /// How many reads stand.
+    /// How many reads stand, those that were folded among them.
     pub standing: u16,
     /// How many of them are flagged as rollovers.
     pub flagged: u16,
@@ -34,7 +34,7 @@ pub struct Report {
 #[must_use = "a reply may be a refusal"]
 #[non_exhaustive]
 pub enum Reply {
-    /// To an enrolment, a submission or a withdrawal.
+    /// To an enrolment, a submission, a withdrawal or a fold.
     Answer(Answer),
     /// To a report.
     Report(Report),

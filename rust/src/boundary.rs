@@ -35,6 +35,8 @@ extern "C" {
         advance: *mut i64,
     ) -> u8;
 
+    pub fn necktureen_fold(register: *mut u8, length: usize, place: u16, flag: *mut u8, advance: *mut i64) -> u8;
+
     pub fn necktureen_report(
         register: *const u8,
         length: usize,

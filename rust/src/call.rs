@@ -1,6 +1,6 @@
 //! A call as a value.
 
-use crate::{enrol, indicator, report, submit, withdraw, Reply};
+use crate::{enrol, fold, indicator, report, submit, withdraw, Reply};
 use core::fmt;
 
 /// The value that marks one that is missing: answered [`Number::Missing`](crate::Number::Missing).
@@ -57,6 +57,11 @@ pub enum Call {
         /// Which meter.
         place: u16,
     },
+    /// See [`fold`].
+    Fold {
+        /// Which meter.
+        place: u16,
+    },
 }
 
 impl Call {
@@ -67,6 +72,7 @@ impl Call {
             Call::Submit { place, read } => Reply::Answer(submit(register, place, read)),
             Call::Withdraw { place, day, value } => Reply::Answer(withdraw(register, place, day, value)),
             Call::Report { place } => Reply::Report(report(register, place)),
+            Call::Fold { place } => Reply::Answer(fold(register, place)),
         }
     }
 
@@ -76,7 +82,8 @@ impl Call {
             Call::Enrol { place, .. }
             | Call::Submit { place, .. }
             | Call::Withdraw { place, .. }
-            | Call::Report { place } => place,
+            | Call::Report { place }
+            | Call::Fold { place } => place,
         }
     }
 }
@@ -91,6 +98,7 @@ impl fmt::Display for Call {
             Call::Submit { place, read } => write!(f, "submit place {place} {read}"),
             Call::Withdraw { place, day, value } => write!(f, "withdraw place {place} day {day} value {value}"),
             Call::Report { place } => write!(f, "report place {place}"),
+            Call::Fold { place } => write!(f, "fold place {place}"),
         }
     }
 }

@@ -41,7 +41,7 @@ pub fn submit(register: &mut [u8], place: u16, read: Submission) -> Answer {
 }
 
 /// Withdraws the meter's last standing read, named by its day and value. Accepted, it answers the read's flag and its
-/// advance negated.
+/// advance negated. The oldest read that a [`fold`] kept is not withdrawn.
 pub fn withdraw(register: &mut [u8], place: u16, day: u16, value: u32) -> Answer {
     let (at, length) = (register.as_mut_ptr(), register.len());
     let (mut flag, mut advance) = (0, 0);
@@ -50,7 +50,18 @@ pub fn withdraw(register: &mut [u8], place: u16, day: u16, value: u32) -> Answer
     Answer { number: Number::answered(number), flag, advance }
 }
 
-/// Counts the meter's standing reads and adds up their advances.
+/// Folds the meter's standing reads but the last three into a carry, which is added to by a later fold, and drops the
+/// withdrawn reads dated no later than the oldest read that is kept. A report is the same before and after; every check
+/// sees the reads that are kept alone. Accepted, it answers flag 0 and advance 0.
+pub fn fold(register: &mut [u8], place: u16) -> Answer {
+    let (at, length) = (register.as_mut_ptr(), register.len());
+    let (mut flag, mut advance) = (0, 0);
+    // SAFETY: as for `enrol`.
+    let number = unsafe { boundary::necktureen_fold(at, length, place, &mut flag, &mut advance) };
+    Answer { number: Number::answered(number), flag, advance }
+}
+
+/// Counts the meter's standing reads, folded ones among them, and adds up their advances.
 pub fn report(register: &[u8], place: u16) -> Report {
     let (at, length) = (register.as_ptr(), register.len());
     let (mut standing, mut flagged, mut total) = (0, 0, 0);

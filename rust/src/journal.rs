@@ -36,6 +36,15 @@ pub enum Entry {
     Withdrawn(Read),
     /// Kind 4, a read that a volume query (19 or 20) left to be confirmed by a re-read.
     Held(Read),
+    /// Kind 5, what is kept of the reads that were folded. It is right after the meter, if there is one.
+    Carry {
+        /// The value of the first of them, in m³.
+        first: u32,
+        /// How many they are.
+        folded: u16,
+        /// How many of them are flagged as rollovers.
+        flagged: u16,
+    },
 }
 
 impl Entry {
@@ -46,6 +55,7 @@ impl Entry {
             2 => Entry::Standing(Read::next(fields)?),
             3 => Entry::Withdrawn(Read::next(fields)?),
             4 => Entry::Held(Read::next(fields)?),
+            5 => Entry::Carry { first: fields.four()?, folded: fields.two()?, flagged: fields.two()? },
             _ => return None,
         })
     }
@@ -57,6 +67,7 @@ impl Entry {
             Entry::Standing(_) => 2,
             Entry::Withdrawn(_) => 3,
             Entry::Held(_) => 4,
+            Entry::Carry { .. } => 5,
         }
     }
 
@@ -67,14 +78,15 @@ impl Entry {
             Entry::Standing(_) => "standing",
             Entry::Withdrawn(_) => "withdrawn",
             Entry::Held(_) => "held",
+            Entry::Carry { .. } => "carry",
         }
     }
 
-    /// Its read; `None` for the meter.
+    /// Its read; `None` for the meter and a carry.
     pub fn read(&self) -> Option<Read> {
         match *self {
             Entry::Standing(read) | Entry::Withdrawn(read) | Entry::Held(read) => Some(read),
-            Entry::Meter { .. } => None,
+            Entry::Meter { .. } | Entry::Carry { .. } => None,
         }
     }
 }
@@ -92,12 +104,16 @@ impl Read {
 }
 
 impl fmt::Display for Entry {
-    /// As in `meter, 4 dials, capacity 5000` or `standing, day 1540, value 100, cyclic, true, flag 1`.
+    /// As in `meter, 4 dials, capacity 5000`, `standing, day 1540, value 100, cyclic, true, flag 1` or
+    /// `carry, first value 9200, 47 folded, 2 flagged`.
     fn fmt(&self, f: &mut fmt::Formatter<'_>) -> fmt::Result {
         f.write_str(self.word())?;
         match *self {
             Entry::Meter { dials, capacity } => write!(f, ", {dials} dials, capacity {capacity}"),
             Entry::Standing(read) | Entry::Withdrawn(read) | Entry::Held(read) => write!(f, ", {read}"),
+            Entry::Carry { first, folded, flagged } => {
+                write!(f, ", first value {first}, {folded} folded, {flagged} flagged")
+            }
         }
     }
 }

@@ -1,8 +1,11 @@
 //! Safe calls into the proved validator of water meter reads.
 //!
 //! A register is a slice of [`REGISTER_BYTES`] bytes that the caller lends, all zero at first. Each call is a function:
-//! [`enrol`], [`submit`], [`withdraw`], [`report`] and [`journal`]; or a value, a [`Call`], that can be kept, written
-//! to a day sheet and made. [`play`] plays a whole day sheet.
+//! [`enrol`], [`submit`], [`withdraw`], [`report`], [`fold`] and [`journal`]; or a value, a [`Call`], that can be kept,
+//! written to a day sheet and made. [`play`] plays a whole day sheet.
+//!
+//! A journal has room for 50 entries. [`fold`] makes room: it keeps the last three standing reads and what the others
+//! come to, and a report stays the same.
 //!
 //! A day is a number, 1 for 1 January 2000. [`date_of`] answers its calendar [`Date`], [`day_of`] the day of a date.
 //!
@@ -30,7 +33,7 @@ mod sheet;
 
 pub use answer::{Answer, Reply, Report};
 pub use call::{Call, Submission, MISSING};
-pub use calls::{enrol, journal, play, report, submit, withdraw};
+pub use calls::{enrol, fold, journal, play, report, submit, withdraw};
 pub use date::{date_of, day_of, Date};
 pub use journal::{entries, Entries, Entry, Read};
 pub use number::{Number, UnknownNumber};

@@ -60,7 +60,7 @@ numbers! {
     Df = 13, "DF", "none stands, and the type is not I or O";
     IndicatorOnOpening = 14, "indicator on opening", "I or O with an indicator";
     NoOriginal = 15, "no original", "a re-read of nothing that is held";
-    Full = 16, "full", "standing and withdrawn entries number 50";
+    Full = 16, "full", "standing and withdrawn entries number 50, or 49 after a fold";
     Ee = 17, "EE", "the indicator denies what detection found";
     Ef = 18, "EF", "unclear whether the dials turned, and the indicator is not set";
     Low = 19, "low", "the advance is low; the read is held";
@@ -71,6 +71,8 @@ numbers! {
     Enrolled = 24, "enrolled", "the area is not all zero";
     Plate = 25, "plate", "dials not 4 to 9, or capacity 0";
     Sheet = 26, "sheet", "unknown kind, cut body, or over 60,000 bytes";
+    NoFold = 27, "no fold", "fewer than four reads stand besides the folded ones, or an F stands";
+    OldestKept = 28, "oldest kept", "it is the oldest read that a fold kept";
 }
 
 impl Number {

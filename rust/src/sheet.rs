@@ -64,6 +64,7 @@ impl Call {
                 SheetEntry::of(3, place)?.and(day.to_le_bytes()).and(value.to_le_bytes())
             }
             Call::Report { place } => SheetEntry::of(4, place)?,
+            Call::Fold { place } => SheetEntry::of(5, place)?,
         })
     }
 
@@ -76,6 +77,7 @@ impl Call {
             2 => Call::Submit { place, read: Submission::next(fields)? },
             3 => Call::Withdraw { place, day: fields.two()?, value: fields.four()? },
             4 => Call::Report { place },
+            5 => Call::Fold { place },
             _ => return None,
         })
     }

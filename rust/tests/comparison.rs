@@ -9,7 +9,7 @@ mod peer;
 mod sides;
 mod tally;
 
-use lists::{say, seed, setting, Random};
+use lists::{say, seed, setting, Idle, Random};
 use necktureen::REGISTER_BYTES;
 use sides::{List, Pair};
 use tally::Tally;
@@ -36,12 +36,14 @@ fn compare_a_list(random: &mut Random, seed: u64, tally: &mut Tally) {
     // The guard's length varies, so that the register starts at every alignment.
     let mut pair = Pair::new(&start, 64 + random.index(16));
     tally.begin();
+    let mut idle = Idle::default();
     let mut calls = Vec::with_capacity(length);
     for _ in 0..length {
-        let call = lists::call(random, &pair.peer, &places);
+        let call = lists::call(random, &mut idle, &pair.peer, &places);
         calls.push(call);
+        let before = pair.peer_area(call.place());
         match pair.call(&call) {
-            Ok(reply) => tally.count(&call, reply, &pair.peer),
+            Ok(reply) => tally.count(&call, reply, before, pair.peer_area(call.place())),
             Err(_) => sides::fail(List { start, calls }, seed),
         }
     }

@@ -5,7 +5,7 @@ mod common;
 mod peer;
 
 use common::*;
-use necktureen::{journal, letter, report, submit, Call, Number};
+use necktureen::{letter, report, submit, Number};
 use std::ops::Range;
 
 fn first() -> [u8; 10] {
@@ -26,7 +26,7 @@ fn damaged() -> Vec<(&'static str, Vec<u8>)> {
         ("ten dials", area_of(&meter(10, 1), &[])),
         ("capacity 0", area_of(&meter(4, 0), &[])),
         ("kind 1 not first", area(&[first(), entry(1, 200, 20, b'C', 0, 0)])),
-        ("kind 5", area(&[first(), entry(5, 200, 20, b'C', 0, 0)])),
+        ("kind 6", area(&[first(), entry(6, 200, 20, b'C', 0, 0)])),
         ("kind 255", area(&[first(), entry(255, 200, 20, b'C', 0, 0)])),
         ("day 0", area(&[entry(STANDING, 0, 10, b'I', 0, 0)])),
         ("value of 10^n", area(&[first(), entry(STANDING, 200, 10_000, b'C', 0, 0)])),
@@ -86,15 +86,7 @@ fn damaged() -> Vec<(&'static str, Vec<u8>)> {
 #[test]
 fn damage_of_every_clause_is_answered_4_and_left_as_it_is() {
     for (clause, bytes) in damaged() {
-        for place in [0, 63] {
-            let register = with_area(place, &bytes);
-            for call in each_call(place) {
-                // An enrolment asks only whether the area is all zero.
-                let number = if matches!(call, Call::Enrol { .. }) { Number::Enrolled } else { Number::Damaged };
-                refuses(&register, call, number, clause);
-            }
-            assert!(journal(&register, place).is_empty(), "{clause}");
-        }
+        is_damaged(&bytes, clause);
     }
 }
 
@@ -122,12 +114,27 @@ fn sound_journals_of_unusual_shape() {
 //
 // The library keeps withdrawn reads in 256 buckets. A read's bucket is the remainder of its day and value together.
 
-/// What library and peer answer a report on a journal of these entries.
+/// A journal of these entries, and one that has them after a carry if they are at most so many.
+fn with_and_without_carry(entries: &[[u8; 10]], most: usize) -> Vec<Vec<u8>> {
+    let after_carry = (entries.len() <= most).then(|| carried(carry(5, 9, 1), entries));
+    [area(entries)].into_iter().chain(after_carry).collect()
+}
+
+/// What library and peer answer a report on a journal of these entries. A carry before them makes no difference.
 fn number(entries: &[[u8; 10]]) -> Number {
-    let register = with_area(9, &area(entries));
-    let answer = report(&register, 9);
-    assert_eq!(answer, peer::report(&register, 9), "{entries:?}");
-    answer.number
+    let numbers = with_and_without_carry(entries, 49).into_iter().map(|area| {
+        let register = with_area(9, &area);
+        let answer = report(&register, 9);
+        assert_eq!(answer, peer::report(&register, 9), "{entries:?}");
+        answer.number
+    });
+    the_only_one(numbers)
+}
+
+fn the_only_one(mut numbers: impl Iterator<Item = Number>) -> Number {
+    let first = numbers.next().expect("a number");
+    assert!(numbers.all(|number| number == first), "a carry makes a difference");
+    first
 }
 
 /// The bytes of an entry's day, of its value, and of both.
@@ -261,11 +268,15 @@ fn a_withdrawn_read_is_compared_with_each_that_stood_before_it() {
 fn sent(entries: &[[u8; 10]], k: u16) -> Number {
     let (day, value) = in_crowd(k);
     let read = read(day, letter::CYCLIC, value);
-    let [mut register, mut of_peer] = [0, 1].map(|_| with_area(9, &area(entries)));
-    let answer = submit(&mut register, 9, read);
-    assert_eq!(answer, peer::submit(&mut of_peer, 9, read), "read {k} to {entries:?}");
-    assert_eq!(register, of_peer, "read {k} to {entries:?}");
-    answer.number
+    // After 49 entries and a carry no read is taken (16).
+    let numbers = with_and_without_carry(entries, 48).into_iter().map(|area| {
+        let [mut register, mut of_peer] = [0, 1].map(|_| with_area(9, &area));
+        let answer = submit(&mut register, 9, read);
+        assert_eq!(answer, peer::submit(&mut of_peer, 9, read), "read {k} to {entries:?}");
+        assert_eq!(register, of_peer, "read {k} to {entries:?}");
+        answer.number
+    });
+    the_only_one(numbers)
 }
 
 /// Each read of a crowd of this size is withdrawn in these entries, and one that is only in the same bucket is not.

@@ -15,7 +15,7 @@ use text::{as_text, run, run_example, text};
 
 #[test]
 fn the_readme_shows_the_examples_as_they_are_built() {
-    let mut files = vec!["c/example.c", "rust/examples/embed.rs", "rust/examples/keep.rs"];
+    let mut files = vec!["c/example.c", "rust/examples/embed.rs", "rust/examples/fold.rs", "rust/examples/keep.rs"];
     for block in blocks(&text("README.md")) {
         if let Block::Fenced { word, text: code } = block {
             if word == "text" {
@@ -85,7 +85,7 @@ fn a_register_is_kept_in_a_file() {
 #[test]
 fn header_crate_and_library_declare_the_same_functions() {
     let header = declarations::of_c(&text("c/necktureen.h"));
-    let names = ["date_of", "day_of", "enrol", "journal", "play", "report", "submit", "withdraw"];
+    let names = ["date_of", "day_of", "enrol", "fold", "journal", "play", "report", "submit", "withdraw"];
     let names = names.map(|name| format!("necktureen_{name}"));
     assert_eq!(header.keys().cloned().collect::<Vec<_>>(), names);
     assert_eq!(declarations::of_rust(&text("rust/src/boundary.rs")), header);
@@ -176,6 +176,24 @@ fn a_date_is_put_where_c_says() {
     let lines = "9 0 9, 9 0 9, 9 0 9: 0\n9 2000 9, 9 1 9, 9 1 9: 1\n9 2000 9, 9 2 9, 9 29 9: 60\n\
         9 2179 9, 9 6 9, 9 5 9: 65535\n";
     assert_eq!(printed("dates", code), lines);
+}
+
+/// C gets number, flag and advance of a fold where its pointers say, accepted or refused, and nothing beside them.
+#[test]
+fn a_fold_is_answered_where_c_says() {
+    let code = "#include <stdio.h>\n#include \"necktureen.h\"\nint main(void) {\n    \
+        static uint8_t reg[NECKTUREEN_REGISTER_BYTES];\n    uint8_t flag;\n    int64_t advance;\n    \
+        necktureen_enrol(reg, sizeof reg, 7, 4, 5000, &flag, &advance);\n    \
+        for (uint16_t day = 1; day <= 4; day++)\n        \
+        necktureen_submit(reg, sizeof reg, 7, day, day, day, day == 1 ? NECKTUREEN_INITIAL : NECKTUREEN_CYCLIC,\n        \
+        NECKTUREEN_NOT_SET, 0, &flag, &advance);\n    for (int i = 0; i < 3; i++) {\n        \
+        uint8_t f[] = {9, 9, 9};\n        int64_t a[] = {9, 9, 9};\n        \
+        uint8_t number = necktureen_fold(reg, i == 2 ? 512 : sizeof reg, 7, &f[1], &a[1]);\n        \
+        printf(\"%u %s, %u %u %u, %d %d %d, \", number, necktureen_word(number), f[0], f[1], f[2], (int)a[0], \
+        (int)a[1], (int)a[2]);\n        \
+        printf(\"%u\\n\", (unsigned)necktureen_journal(reg, sizeof reg, 7));\n    }\n    return 0;\n}\n";
+    let lines = "0 accepted, 9 0 9, 9 0 9, 45\n27 no fold, 9 0 9, 9 0 9, 45\n2 misfit, 9 0 9, 9 0 9, 45\n";
+    assert_eq!(printed("fold", code), lines);
 }
 
 /// An int that C would cut to a place is an error with -Wconversion; a constant that fits is none.

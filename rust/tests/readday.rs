@@ -26,6 +26,7 @@ fn submit(submitted: u16, day: u16, letter: u8, value: u32, indicator: u8, rerea
 
 const ENROL: Call = Call::Enrol { place: 0, dials: 4, capacity: 5000 };
 const REPORT: Call = Call::Report { place: 0 };
+const FOLD: Call = Call::Fold { place: 0 };
 
 fn case_s() -> Vec<u8> {
     sheet(&[
@@ -78,6 +79,17 @@ fn case_s_prints_what_the_paper_has() {
     assert_eq!(case_s(), include_bytes!("../../crates/readday/stdin"), "the sheet that `rt` runs the program on");
 }
 
+/// Case S has three reads standing at its end: too few. A fourth is sent and they are folded; the misread of before is
+/// sent again and is withdrawn as before, since it is later than the oldest read that is kept.
+#[test]
+fn a_fold_is_a_line_as_any_other() {
+    let fourth = submit(1800, 1720, CYCLIC, 9800, NOT_SET, 0);
+    let again = submit(1800, 1540, CYCLIC, 100, TRUE, 0);
+    let more = sheet(&[FOLD, fourth, FOLD, REPORT, FOLD, again, Call::Fold { place: 64 }]);
+    let lines = "27 0 0\n0 0 200\n0 0 0\n0 4 0 600\n27 0 0\n8 0 0\n3 0 0\n";
+    assert_eq!(play(&[case_s(), more].concat()), format!("{CASE_S}{lines}"));
+}
+
 /// A sheet that comes in pieces is gathered whole.
 #[test]
 fn a_sheet_may_come_byte_by_byte() {
@@ -100,7 +112,7 @@ fn an_empty_sheet_prints_nothing() {
 #[test]
 fn a_cut_body_is_a_fault() {
     let opening = submit(1600, 1000, INITIAL, 9200, NOT_SET, 0);
-    for call in [ENROL, opening, Call::Withdraw { place: 0, day: 1540, value: 100 }, REPORT] {
+    for call in [ENROL, opening, Call::Withdraw { place: 0, day: 1540, value: 100 }, REPORT, FOLD] {
         let entry = sheet(&[call]);
         for length in 1..entry.len() {
             let cut = &entry[..length];
@@ -113,7 +125,7 @@ fn a_cut_body_is_a_fault() {
 /// Nothing after an unknown kind is played, a whole entry neither.
 #[test]
 fn an_unknown_kind_is_a_fault() {
-    for kind in [0, 5, 6, 49, 128, 255] {
+    for kind in [0, 6, 7, 49, 128, 255] {
         assert_eq!(play(&[kind]), FAULT, "{kind}");
         assert_eq!(play(&[&case_s(), &[kind][..], &sheet(&[REPORT])].concat()), format!("{CASE_S}{FAULT}"), "{kind}");
     }

@@ -3,8 +3,8 @@
 
 mod lists;
 
-use lists::Random;
-use necktureen::{Answer, Call, Number, Reply, AREA_BYTES, REGISTER_BYTES};
+use lists::{Idle, Random};
+use necktureen::{report, Answer, Call, Number, Reply, Report, AREA_BYTES, REGISTER_BYTES};
 
 /// What a meter's calls and answers come to, and never its bytes.
 #[derive(Default)]
@@ -12,6 +12,9 @@ struct Ledger {
     dials: u32,
     standing: Vec<(u16, u32)>,
     withdrawn: Vec<(u16, u32)>,
+    /// How many of the first standing reads were folded, and how many folds did it.
+    folded: usize,
+    folds: usize,
     advances: i64,
     flags: i64,
 }
@@ -32,6 +35,12 @@ impl Ledger {
                 self.advances += advance;
                 self.flags -= i64::from(flag);
             }
+            // The list of standing reads stays as it is, and the last three of it are kept as entries.
+            Call::Fold { .. } => {
+                assert_eq!((flag, advance), (0, 0));
+                self.folded = self.standing.len() - 3;
+                self.folds += 1;
+            }
             _ => {}
         }
     }
@@ -43,30 +52,55 @@ impl Ledger {
         };
         assert_eq!(self.advances, span + 10_i64.pow(self.dials) * self.flags, "the sum");
         assert!(self.standing.iter().all(|named| !self.withdrawn.contains(named)), "a withdrawn read stands");
-        assert_eq!(kind_2_entries(area), self.standing, "the kind 2 entries");
+        assert_eq!(kind_2_entries(area), self.standing[self.folded..], "the kind 2 entries");
+        let carry = (self.folds > 0).then(|| (self.standing[0].1, self.folded as u16));
+        assert_eq!(carry_of(area), carry, "the carry");
     }
+
+    /// A report counts the list of standing reads, those that were folded too.
+    fn is_reported(&self, report: Report) {
+        if report.number == Number::Accepted {
+            let counted = (self.standing.len(), self.flags, self.advances);
+            assert_eq!((usize::from(report.standing), i64::from(report.flagged), report.total), counted, "the report");
+        }
+    }
+}
+
+/// The first value and the folded reads of an area's carry, read off its bytes.
+fn carry_of(area: &[u8]) -> Option<(u32, u16)> {
+    let carry = &area[6..15];
+    let first = u32::from_le_bytes([carry[1], carry[2], carry[3], carry[4]]);
+    (carry[0] == 5).then(|| (first, u16::from_le_bytes([carry[5], carry[6]])))
 }
 
 /// The days and values of an area's kind 2 entries, read off its bytes.
 fn kind_2_entries(area: &[u8]) -> Vec<(u16, u32)> {
-    area[6..506]
-        .chunks(10)
+    let head = if carry_of(area).is_some() { 15 } else { 6 };
+    area[head..]
+        .chunks_exact(10)
         .filter(|e| e[0] == 2)
         .map(|e| (u16::from_le_bytes([e[1], e[2]]), u32::from_le_bytes([e[3], e[4], e[5], e[6]])))
         .collect()
 }
 
+/// A random list played on a register of zeros, which it leaves as run A does, with each call's reply.
+fn run_a(seed: u64) -> (Vec<u8>, Vec<(Call, Reply)>) {
+    let places = [0, 1, 31, 63, 64, 256, 65_535];
+    let (mut random, mut idle) = (Random::new(seed), Idle::default());
+    let mut register = vec![0; REGISTER_BYTES];
+    let exchanges = (0..2_000).map(|_| {
+        let call = lists::call(&mut random, &mut idle, &register, &places);
+        (call, call.make(&mut register))
+    });
+    let exchanges = exchanges.collect();
+    (register, exchanges)
+}
+
 #[test]
 fn two_runs_agree_at_every_meter() {
-    let places = [0, 1, 31, 63, 64, 256, 65_535];
+    let (mut folded, mut folded_again) = (0, 0);
     for seed in 0..60 {
-        let mut random = Random::new(seed);
-        let mut a = vec![0; REGISTER_BYTES];
-        let mut exchanges = Vec::new();
-        for _ in 0..2_000 {
-            let call = lists::call(&mut random, &a, &places);
-            exchanges.push((call, call.make(&mut a)));
-        }
+        let (a, exchanges) = run_a(seed);
         for meter in [0, 1, 2, 31, 63] {
             let mut b = vec![0; REGISTER_BYTES];
             let (mut in_a, mut in_b) = (Ledger::default(), Ledger::default());
@@ -75,12 +109,17 @@ fn two_runs_agree_at_every_meter() {
                 if matches!(reply.number(), Number::Accepted | Number::Low | Number::High) {
                     assert_eq!(call.make(&mut b), reply, "seed {seed}, meter {meter}, {call:?}");
                     in_b.enter(call, reply);
+                    in_b.is_reported(report(&b, meter));
                 }
             }
             let area = AREA_BYTES * usize::from(meter)..AREA_BYTES * (usize::from(meter) + 1);
             assert_eq!(a[area.clone()], b[area.clone()], "seed {seed}, meter {meter}");
             in_a.holds(&a[area.clone()]);
             in_b.holds(&b[area]);
+            in_a.is_reported(report(&a, meter));
+            folded += usize::from(in_a.folds > 0);
+            folded_again += usize::from(in_a.folds > 1);
         }
     }
+    assert!(folded >= 50 && folded_again >= 25, "{folded} meters were folded, {folded_again} of them again");
 }

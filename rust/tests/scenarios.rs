@@ -3,7 +3,7 @@
 mod lists;
 mod text;
 
-use lists::Random;
+use lists::{Idle, Random};
 use necktureen::{letter, Call, Submission, MISSING, REGISTER_BYTES};
 use std::process::Command;
 use text::{as_text, calls, dates::day_number, lines, repository, run, run_example, scenario};
@@ -56,8 +56,10 @@ fn the_year_of_the_demands() {
 
 /// Each bad line, and what is said of it.
 const FAULTS: &[(&str, &str)] = &[
-    ("enroll place 0", "'enroll' is not a call; a line begins with one of: enrol, submit, withdraw, report"),
+    ("enroll place 0", "'enroll' is not a call; a line begins with one of: enrol, submit, withdraw, report, fold"),
     ("report", "report lacks 'place'; a whole line is: report place 0"),
+    ("fold", "fold lacks 'place'; a whole line is: fold place 0"),
+    ("fold place 0 day 1", "'day' is not a field of fold; it has: place"),
     ("report place", "place has no value after it"),
     ("report place 0 place 1", "place is given twice"),
     ("report place 0 day 1", "'day' is not a field of report; it has: place"),
@@ -148,9 +150,9 @@ fn a_file_that_is_not_there_and_unknown_words_have_their_own_status() {
 #[test]
 fn a_call_is_read_as_it_is_printed() {
     let mut random = Random::new(1);
-    let mut register = vec![0; REGISTER_BYTES];
+    let (mut register, mut idle) = (vec![0; REGISTER_BYTES], Idle::default());
     for _ in 0..100_000 {
-        let call = lists::call(&mut random, &register, &[0, 63, 64, 65_535]);
+        let call = lists::call(&mut random, &mut idle, &register, &[0, 63, 64, 65_535]);
         let _ = call.make(&mut register);
         assert_eq!(lines::call(&call.to_string()), Ok(Some(call)));
     }

@@ -3,8 +3,8 @@
 mod lists;
 mod peer;
 
-use lists::{hexadecimal, say, seed, shortened, Random};
-use necktureen::{calls, play, Call, REGISTER_BYTES, SHEET_BYTES, TEXT_BYTES};
+use lists::{hexadecimal, say, seed, shortened, Idle, Random};
+use necktureen::{calls, play, Call, Reply, Submission, REGISTER_BYTES, SHEET_BYTES, TEXT_BYTES};
 use std::io::Write;
 use std::path::PathBuf;
 use std::process::{Command, Stdio};
@@ -24,9 +24,9 @@ fn played_sheet(random: &mut Random, length: usize) -> Vec<u8> {
     let every_place: Vec<u16> = (0..=63).collect();
     let few: Vec<u16> = (0..2).map(|_| random.index(64) as u16).collect();
     let places = if random.once_in(2) { every_place } else { few };
-    let mut sheet = Vec::new();
+    let (mut sheet, mut idle) = (Vec::new(), Idle::default());
     while sheet.len() < length {
-        let entry = bytes(lists::call(random, &register, &places));
+        let entry = bytes(lists::call(random, &mut idle, &register, &places));
         peer::play(&entry, &mut register);
         sheet.extend(entry);
     }
@@ -54,8 +54,8 @@ fn any_sheet(random: &mut Random) -> Vec<u8> {
             let at = random.index(sheet.len());
             sheet[at] = random.byte();
         }
-        2 => sheet.push(random.pick(&[0, 5, 255])),
-        3 => sheet = (0..random.index(60)).map(|_| random.byte() % 5).collect(),
+        2 => sheet.push(random.pick(&[0, 5, 9, 255])),
+        3 => sheet = (0..random.index(60)).map(|_| random.byte() % 7).collect(),
         4 => sheet.extend([0; 40]),
         _ => {}
     }
@@ -64,8 +64,17 @@ fn any_sheet(random: &mut Random) -> Vec<u8> {
 
 /// Short ones, and those about the most that a sheet may have.
 fn edge_sheets(random: &mut Random) -> Vec<Vec<u8>> {
-    let mut sheets =
-        vec![vec![], vec![0], vec![1], vec![5], vec![4, 0], vec![0; SHEET_BYTES], vec![0; SHEET_BYTES + 1]];
+    let mut sheets = vec![
+        vec![],
+        vec![0],
+        vec![1],
+        vec![5],
+        vec![9],
+        vec![4, 0],
+        vec![5, 0],
+        vec![0; SHEET_BYTES],
+        vec![0; SHEET_BYTES + 1],
+    ];
     sheets.extend([59_999, 60_000, 60_001, 60_002, 100_000].map(|length| sheet_of(random, length)));
     sheets
 }
@@ -97,6 +106,52 @@ fn a_sheet_read_is_written_as_it_was() {
         let sheet = any_sheet(&mut random);
         assert_eq!(parts(&sheet).concat(), sheet);
     }
+}
+
+/// Calls of every kind, and the line that each has when it is made by itself.
+fn calls_with_lines() -> Vec<(Call, String)> {
+    let read = |day, letter, value| Submission { submitted: 900, day, value, letter, indicator: 0, reread: 0 };
+    let sent = |day, letter, value| Call::Submit { place: 9, read: read(day, letter, value) };
+    let calls = [
+        Call::Fold { place: 9 },
+        Call::Enrol { place: 9, dials: 5, capacity: 9000 },
+        sent(100, b'I', 1000),
+        sent(200, b'C', 1100),
+        Call::Fold { place: 9 },
+        sent(300, b'C', 1200),
+        sent(400, b'C', 1300),
+        Call::Fold { place: 9 },
+        Call::Report { place: 9 },
+        Call::Withdraw { place: 9, day: 400, value: 1300 },
+        Call::Fold { place: 255 },
+    ];
+    let mut register = vec![0; REGISTER_BYTES];
+    let line = |call: &Call| match call.make(&mut register) {
+        Reply::Report(r) => format!("{} {} {} {}\n", r.number as u8, r.standing, r.flagged, r.total),
+        Reply::Answer(a) => format!("{} {} {}\n", a.number as u8, a.flag, a.advance),
+        other => panic!("no line for {other}"),
+    };
+    let lines: Vec<String> = calls.iter().map(line).collect();
+    calls.into_iter().zip(lines).collect()
+}
+
+/// The lines of the whole calls come first, then the fault if the cut is within one.
+#[test]
+fn a_sheet_is_cut_at_every_byte() {
+    let (mut sheet, mut lines) = (Vec::new(), String::new());
+    for (call, line) in calls_with_lines() {
+        let entry = bytes(call);
+        for length in 0..entry.len() {
+            let cut = [&sheet[..], &entry[..length]].concat();
+            let fault = if length == 0 { "" } else { "26 0 0\n" };
+            let (_, text, _) = play_library(&cut, &vec![0; REGISTER_BYTES], 1000);
+            assert_eq!(String::from_utf8_lossy(&text), format!("{lines}{fault}"), "{call}, {length} bytes of it");
+        }
+        sheet.extend(entry);
+        lines += &line;
+    }
+    let (length, text, _) = play_library(&sheet, &vec![0; REGISTER_BYTES], 1000);
+    assert_eq!((length, String::from_utf8_lossy(&text).into_owned()), (lines.len(), lines));
 }
 
 // ---- The library's play ----

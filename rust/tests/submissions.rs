@@ -5,12 +5,8 @@ mod common;
 
 use common::*;
 use necktureen::{
-    day_of, enrol, indicator, report, submit, withdraw, Answer, Date, Number, Report, Submission, REGISTER_BYTES,
+    day_of, enrol, indicator, report, submit, withdraw, Date, Number, Report, Submission, REGISTER_BYTES,
 };
-
-fn taken(flag: u8, advance: i64) -> Answer {
-    Answer { number: Number::Accepted, flag, advance }
-}
 
 /// A register with a meter of four dials at place 0 and these accepted reads.
 fn with_reads(capacity: u32, reads: &[(u16, u8, u32)]) -> Vec<u8> {

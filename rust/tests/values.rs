@@ -45,6 +45,7 @@ fn a_call_has_its_bytes_on_a_sheet() {
         (Call::Submit { place: 2, read: opening }, &[2, 2, 0x40, 0x06, 0xE8, 0x03, 0xF0, 0x23, 0, 0, 0x49, 2, 1]),
         (Call::Withdraw { place: 63, day: 0x1234, value: 0x89AB_CDEF }, &[3, 63, 0x34, 0x12, 0xEF, 0xCD, 0xAB, 0x89]),
         (Call::Report { place: 255 }, &[4, 255]),
+        (Call::Fold { place: 64 }, &[5, 64]),
     ] {
         let entry = call.sheet_entry().expect("an entry");
         assert_eq!(&entry[..], bytes, "{call}");
@@ -87,7 +88,7 @@ fn a_sheet_ends_where_its_room_does() {
 /// What follows the last whole call is left, whether it is cut or of an unknown kind.
 #[test]
 fn a_fault_is_what_is_left_of_a_sheet() {
-    for fault in [&[0][..], &[5, 0], &[1], &[1, 0, 4, 1, 0, 0], &[2, 0, 0, 0], &[4], &[255; 20]] {
+    for fault in [&[0][..], &[9, 0], &[1], &[1, 0, 4, 1, 0, 0], &[2, 0, 0, 0], &[4], &[5], &[255; 20]] {
         let sheet = [&[4, 7, 4, 8][..], fault].concat();
         let mut read = calls(&sheet);
         let places: Vec<u16> = read.by_ref().map(|call| call.place()).collect();
@@ -99,7 +100,7 @@ fn a_fault_is_what_is_left_of_a_sheet() {
 #[test]
 fn text_that_does_not_fit_is_cut_and_the_calls_are_made() {
     let sheet: Vec<u8> = each_call(5).iter().filter_map(Call::sheet_entry).flat_map(|entry| entry.to_vec()).collect();
-    let whole = b"0 0 0\n13 0 0\n22 0 0\n0 0 0 0\n";
+    let whole = b"0 0 0\n13 0 0\n22 0 0\n0 0 0 0\n27 0 0\n";
     for room in 0..=whole.len() + 1 {
         let (mut register, mut text) = (zeros(), vec![0xA5; room]);
         assert_eq!(guarded(&mut register, |r| play(&sheet, r, &mut text)), whole.len());
@@ -145,6 +146,18 @@ fn a_journal_is_read_entry_by_entry() {
     assert_eq!(kinds, [(1, false), (2, true), (3, true), (2, true), (4, true)]);
 }
 
+#[test]
+fn a_carry_is_read_after_the_meter() {
+    let kept = entry(STANDING, 65_535, 9400, b'C', 2, 1);
+    let register = with_area(0, &carried(carry(9999, 65_534, 0x0102), &[kept]));
+    let found: Vec<Entry> = entries(journal(&register, 0)).collect();
+    let read = Read { day: 65_535, value: 9400, letter: letter::CYCLIC, indicator: indicator::TRUE, flag: 1 };
+    let carry = Entry::Carry { first: 9999, folded: 65_534, flagged: 0x0102 };
+    assert_eq!(found, [Entry::Meter { dials: 4, capacity: 5000 }, carry, Entry::Standing(read)]);
+    assert_eq!((carry.kind(), carry.word(), carry.read()), (5, "carry", None));
+    assert_eq!(carry.to_string(), "carry, first value 9999, 65534 folded, 258 flagged");
+}
+
 /// Any bytes are read without a stop; a refused report leaves nothing to read.
 #[test]
 fn any_bytes_are_read_as_far_as_they_are_entries() {
@@ -152,6 +165,8 @@ fn any_bytes_are_read_as_far_as_they_are_entries() {
     assert_eq!(entries(&[0; 512]).count(), 0);
     assert_eq!(entries(&[1, 4, 0, 0, 0]).count(), 0);
     assert_eq!(entries(&[1; 512]).count(), 85);
+    assert_eq!(entries(&[5; 512]).count(), 56);
+    assert_eq!(entries(&[5; 8]).count(), 0);
     let whole = area(&[entry(STANDING, 1, 1, b'I', 0, 0), entry(9, 1, 1, b'I', 0, 0)]);
     assert_eq!(entries(&whole).count(), 2);
     assert_eq!(entries(journal(&with_area(0, &whole), 0)).count(), 0);

@@ -1,6 +1,7 @@
 //! The cases that are measured, in the order of the tables.
 
-use crate::journals::{damage, day, register, Withdrawn, ADVANCE, CAPACITY, DIALS, PLACES};
+use crate::journals::{carried_register, damage, day, next_read_carried, register, Withdrawn};
+use crate::journals::{ADVANCE, CAPACITY, DIALS, PLACES};
 use crate::rows::{Made, Row};
 use necktureen::{Number, REGISTER_BYTES};
 
@@ -15,6 +16,9 @@ pub fn rows() -> Vec<Row> {
     rows.extend([1, 25, 50].map(|entries| withdraw("accepted", entries, Withdrawn::None)));
     rows.extend(WITHDRAWN.map(|(case, withdrawn)| withdraw(case, 50, withdrawn)));
     rows.push(enrol());
+    rows.extend(folds());
+    rows.extend([3, 49].map(|entries| carried(Made::Report, entries)));
+    rows.extend([3, 48].map(|entries| carried(Made::Submit(next_read_carried(entries)), entries)));
     rows.extend([0, 50].map(|entries| row(Made::Journal, "handed back", entries, Number::Accepted)));
     rows.extend([(Made::DateOf, "the date of a day"), (Made::DayOf, "the day of a date")].map(calendar));
     rows
@@ -22,7 +26,8 @@ pub fn rows() -> Vec<Row> {
 
 fn row(made: Made, case: &'static str, entries: usize, expected: Number) -> Row {
     let places = (0..PLACES).collect();
-    Row { call: made.word(), case, entries, expected, made, places, register: register(entries, Withdrawn::None) }
+    let register = register(entries, Withdrawn::None);
+    Row { call: made.word(), case, entries, is_carried: false, expected, made, places, register }
 }
 
 /// The journals with withdrawn entries.
@@ -98,6 +103,21 @@ fn withdraw(case: &'static str, entries: usize, withdrawn: Withdrawn) -> Row {
     let last = withdrawn.standing(entries) - 1;
     let made = Made::Withdraw { day: day(last), value: withdrawn.value(last) };
     Row { register: register(entries, withdrawn), ..row(made, case, entries, Number::Accepted) }
+}
+
+fn folds() -> Vec<Row> {
+    let fold = |entries| row(Made::Fold, "accepted", entries, Number::Accepted);
+    let (case, withdrawn) = WITHDRAWN[0];
+    let mut rows: Vec<Row> = [4, 25, 50].map(fold).into();
+    rows.push(Row { case, register: register(50, withdrawn), ..fold(50) });
+    rows.extend([4, 49].map(|entries| carried(Made::Fold, entries)));
+    rows
+}
+
+/// On journals with a carry.
+fn carried(made: Made, entries: usize) -> Row {
+    let row = row(made, "accepted, after a carry", entries, Number::Accepted);
+    Row { is_carried: true, register: carried_register(entries), ..row }
 }
 
 fn enrol() -> Row {

@@ -61,9 +61,11 @@ impl Counted {
         Ok(Counted { before, last: last::of_call(&row), now, row })
     }
 
-    /// The least journal on which the same call is answered the same, if it is less than this one.
+    /// The least journal on which the same call is answered the same, if it is less than this one. Journals with a carry
+    /// are for themselves.
     fn least<'a>(&self, all: &'a [Counted]) -> Option<&'a Counted> {
-        let alike = |other: &&Counted| other.row.call == self.row.call && other.row.expected == self.row.expected;
+        let case = |counted: &Counted| (counted.row.call, counted.row.expected, counted.row.is_carried);
+        let alike = |other: &&Counted| case(other) == case(self);
         let least = all.iter().filter(alike).min_by_key(|other| other.row.entries)?;
         (least.row.entries < self.row.entries).then_some(least)
     }

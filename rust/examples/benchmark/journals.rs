@@ -17,7 +17,10 @@ const LETTERS: [u8; 8] = *b"CURTSXYE";
 const AHEAD: usize = 24;
 /// The library keeps withdrawn reads in so many buckets. A read's bucket is the remainder of its day and value together.
 const BUCKETS: u32 = 256;
+/// How many reads were folded where a journal has a carry: as many as a fold of 50 folds.
+const FOLDED: usize = 47;
 const METER_BYTES: usize = 6;
+const CARRY_BYTES: usize = 9;
 const ENTRY_BYTES: usize = 10;
 
 /// Which entries of a journal are withdrawn.
@@ -91,12 +94,18 @@ fn letter(standing: usize) -> u8 {
     }
 }
 
-/// A register with the same journal at every place. A withdrawn entry is a misread of the read that stands next, of its
-/// day and type with another value, or was dated ahead.
-pub fn register(entries: usize, withdrawn: Withdrawn) -> Vec<u8> {
+/// An area with a meter and no read.
+fn empty_area() -> Vec<u8> {
     let mut area = vec![0; AREA_BYTES];
     area[..2].copy_from_slice(&[1, DIALS]);
     area[2..METER_BYTES].copy_from_slice(&CAPACITY.to_le_bytes());
+    area
+}
+
+/// A register with the same journal at every place. A withdrawn entry is a misread of the read that stands next, of its
+/// day and type with another value, or was dated ahead.
+pub fn register(entries: usize, withdrawn: Withdrawn) -> Vec<u8> {
+    let mut area = empty_area();
     for (position, entry) in area[METER_BYTES..].chunks_exact_mut(ENTRY_BYTES).take(entries).enumerate() {
         let standing = withdrawn.standing(position);
         let stands = withdrawn.standing(position + 1) > standing;
@@ -108,6 +117,25 @@ pub fn register(entries: usize, withdrawn: Withdrawn) -> Vec<u8> {
         write_entry(entry, kind, day, value, letter(standing));
     }
     area.repeat(usize::from(PLACES))
+}
+
+/// The same with a carry of the first reads, and so many standing ones after it.
+pub fn carried_register(entries: usize) -> Vec<u8> {
+    let mut area = empty_area();
+    let (carry, body) = area[METER_BYTES..].split_at_mut(CARRY_BYTES);
+    carry[0] = 5;
+    carry[1..5].copy_from_slice(&Withdrawn::None.value(0).to_le_bytes());
+    carry[5..7].copy_from_slice(&(FOLDED as u16).to_le_bytes());
+    for (position, entry) in body.chunks_exact_mut(ENTRY_BYTES).take(entries).enumerate() {
+        let standing = FOLDED + position;
+        write_entry(entry, 2, day(standing), Withdrawn::None.value(standing), letter(standing));
+    }
+    area.repeat(usize::from(PLACES))
+}
+
+/// The read that follows so many standing ones after a carry.
+pub fn next_read_carried(entries: usize) -> Submission {
+    Withdrawn::None.next_read(FOLDED + entries, ADVANCE)
 }
 
 fn write_entry(entry: &mut [u8], kind: u8, day: u16, value: u32, letter: u8) {

@@ -1,5 +1,4 @@
-//! The instructions of the library as it was just before it had a calendar, version 0.2.0, to be shown beside those of
-//! now.
+//! The instructions of the library as it was just before it could fold, version 0.3.0, to be shown beside those of now.
 //!
 //! They were counted as they are now, on the same journals.
 
@@ -22,24 +21,24 @@ const CALLS: &[CallRow] = &[
     ("report", "accepted, place 0", 25, 718),
     ("report", "accepted, place 31", 25, 718),
     ("report", "accepted, place 63", 25, 718),
-    ("submit", "accepted", 0, 425),
-    ("submit", "accepted", 3, 605),
-    ("submit", "accepted", 25, 979),
-    ("submit", "accepted", 49, 1443),
-    ("submit", "accepted, every second entry withdrawn", 49, 2207),
-    ("submit", "accepted, every second entry withdrawn, buckets alike", 49, 2409),
-    ("submit", "accepted, every second entry withdrawn, one bucket for all", 49, 9933),
-    ("submit", "accepted, all entries but the first withdrawn", 49, 2021),
-    ("submit", "accepted, half the entries dated ahead and withdrawn", 49, 2181),
+    ("submit", "accepted", 0, 426),
+    ("submit", "accepted", 3, 641),
+    ("submit", "accepted", 25, 1015),
+    ("submit", "accepted", 49, 1479),
+    ("submit", "accepted, every second entry withdrawn", 49, 2243),
+    ("submit", "accepted, every second entry withdrawn, buckets alike", 49, 2445),
+    ("submit", "accepted, every second entry withdrawn, one bucket for all", 49, 9969),
+    ("submit", "accepted, all entries but the first withdrawn", 49, 2059),
+    ("submit", "accepted, half the entries dated ahead and withdrawn", 49, 2217),
     ("submit", "refused at once, misfit (2)", 3, 39),
     ("submit", "refused at once, misfit (2)", 25, 39),
     ("submit", "refused at once, misfit (2)", 49, 39),
     ("submit", "refused at once, place 64 (3)", 3, 42),
     ("submit", "refused at once, place 64 (3)", 25, 42),
     ("submit", "refused at once, place 64 (3)", 49, 42),
-    ("submit", "refused last, capacity (21)", 3, 593),
-    ("submit", "refused last, capacity (21)", 25, 967),
-    ("submit", "refused last, capacity (21)", 49, 1431),
+    ("submit", "refused last, capacity (21)", 3, 624),
+    ("submit", "refused last, capacity (21)", 25, 998),
+    ("submit", "refused last, capacity (21)", 49, 1462),
     ("submit", "held, low (19)", 3, 599),
     ("submit", "held, low (19)", 25, 973),
     ("submit", "held, low (19)", 49, 1437),
@@ -57,6 +56,8 @@ const CALLS: &[CallRow] = &[
     ("enrol", "accepted", 0, 93),
     ("journal", "handed back", 0, 249),
     ("journal", "handed back", 50, 1154),
+    ("date_of", "the date of a day", 0, 129),
+    ("day_of", "the day of a date", 0, 127),
 ];
 
 pub fn of_call(row: &Row) -> Option<u64> {

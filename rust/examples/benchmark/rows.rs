@@ -12,6 +12,7 @@ pub enum Made {
     Enrol { dials: u8, capacity: u32 },
     Submit(Submission),
     Withdraw { day: u16, value: u32 },
+    Fold,
     Report,
     Journal,
     DateOf,
@@ -35,6 +36,7 @@ impl Made {
             Made::Enrol { .. } => "enrol",
             Made::Submit(_) => "submit",
             Made::Withdraw { .. } => "withdraw",
+            Made::Fold => "fold",
             Made::Report => "report",
             Made::Journal => "journal",
             Made::DateOf => "date_of",
@@ -47,6 +49,8 @@ pub struct Row {
     pub call: &'static str,
     pub case: &'static str,
     pub entries: usize,
+    /// Whether the journals have a carry, which is no entry of theirs.
+    pub is_carried: bool,
     /// What the call is answered. The journal call, which answers no number, has that of a report, and a call of the
     /// calendar is accepted if it is answered as the peer's.
     pub expected: Number,
@@ -62,10 +66,10 @@ impl Row {
         self.places.len() as u32
     }
 
-    /// A call that stores or marks a read finds another register the second time.
+    /// A call that stores, marks or folds reads finds another register the second time.
     fn changes(&self) -> bool {
         let stored = [Number::Accepted, Number::Low, Number::High].contains(&self.expected);
-        stored && matches!(self.made, Made::Enrol { .. } | Made::Submit(_) | Made::Withdraw { .. })
+        stored && matches!(self.made, Made::Enrol { .. } | Made::Submit(_) | Made::Withdraw { .. } | Made::Fold)
     }
 
     /// Holds both sides to the answer that the row names.
@@ -82,6 +86,7 @@ impl Row {
             Made::Enrol { dials, capacity } => (side.enrol)(register, place, dials, capacity).number,
             Made::Submit(read) => (side.submit)(register, place, read).number,
             Made::Withdraw { day, value } => (side.withdraw)(register, place, day, value).number,
+            Made::Fold => (side.fold)(register, place).number,
             Made::Report => (side.report)(register, place).number,
             Made::Journal if (side.journal)(register, place).is_empty() => Number::NoMeter,
             Made::Journal => Number::Accepted,
@@ -102,6 +107,9 @@ impl Row {
             }),
             Made::Withdraw { day, value } => self.stretches(passes, |register, place| {
                 let _ = black_box((side.withdraw)(register, place, black_box(day), black_box(value)));
+            }),
+            Made::Fold => self.stretches(passes, |register, place| {
+                let _ = black_box((side.fold)(register, place));
             }),
             Made::Report => self.stretches(passes, |register, place| {
                 let _ = black_box((side.report)(register, place));

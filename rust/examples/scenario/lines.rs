@@ -50,6 +50,13 @@ pub const FORMS: &[Form] = &[
         example: "report place 0",
         call: |fields| Ok(Call::Report { place: fields.two("place")? }),
     },
+    Form {
+        word: "fold",
+        fields: &["place"],
+        optional: &[],
+        example: "fold place 0",
+        call: |fields| Ok(Call::Fold { place: fields.two("place")? }),
+    },
 ];
 
 /// The call of a line, none for an empty line or a comment, or what is wrong with it.

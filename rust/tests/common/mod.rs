@@ -1,8 +1,8 @@
-//! Journals made by hand, from document 01's table of bytes, for the tests.
+//! Journals made by hand, from the papers' tables of bytes, for the tests.
 #![allow(dead_code)]
 
 use necktureen::{
-    indicator, letter, play, Answer, Call, Number, Reply, Report, Submission, AREA_BYTES, REGISTER_BYTES,
+    indicator, journal, letter, play, Answer, Call, Number, Reply, Report, Submission, AREA_BYTES, REGISTER_BYTES,
 };
 
 pub const STANDING: u8 = 2;
@@ -20,10 +20,32 @@ pub fn entry(kind: u8, day: u16, value: u32, letter: u8, indicator: u8, flag: u8
     [kind, d[0], d[1], v[0], v[1], v[2], v[3], letter, indicator, flag]
 }
 
+/// A standing cyclic read.
+pub fn stands(day: u16, value: u32) -> [u8; 10] {
+    entry(STANDING, day, value, b'C', 0, 0)
+}
+
+/// A withdrawn cyclic read.
+pub fn gone(day: u16, value: u32) -> [u8; 10] {
+    entry(WITHDRAWN, day, value, b'C', 0, 0)
+}
+
+/// So many standing reads, a day and a cubic metre apart, from day 1 on.
+pub fn daily(count: u16) -> Vec<[u8; 10]> {
+    let later = (2..=count).map(|day| stands(day, u32::from(day)));
+    [entry(STANDING, 1, 1, b'I', 0, 0)].into_iter().chain(later).take(usize::from(count)).collect()
+}
+
 /// The meter's entry: kind 1, dials and capacity.
 pub fn meter(dials: u8, capacity: u32) -> [u8; 6] {
     let c = capacity.to_le_bytes();
     [1, dials, c[0], c[1], c[2], c[3]]
+}
+
+/// A carry: the first value, how many reads were folded, and how many of them are flagged.
+pub fn carry(first: u32, folded: u16, flagged: u16) -> [u8; 9] {
+    let (v, n, f) = (first.to_le_bytes(), folded.to_le_bytes(), flagged.to_le_bytes());
+    [5, v[0], v[1], v[2], v[3], n[0], n[1], f[0], f[1]]
 }
 
 /// An area of four dials and a capacity of 5000 with these entries after the meter's.
@@ -31,11 +53,18 @@ pub fn area(entries: &[[u8; 10]]) -> Vec<u8> {
     area_of(&meter(4, 5000), entries)
 }
 
-pub fn area_of(meter: &[u8; 6], entries: &[[u8; 10]]) -> Vec<u8> {
-    let mut bytes = meter.to_vec();
+/// The same with a carry after the meter's entry.
+pub fn carried(carry: [u8; 9], entries: &[[u8; 10]]) -> Vec<u8> {
+    area_of(&[&meter(4, 5000)[..], &carry].concat(), entries)
+}
+
+/// An area with this head and these entries, then zeros.
+pub fn area_of(head: &[u8], entries: &[[u8; 10]]) -> Vec<u8> {
+    let mut bytes = head.to_vec();
     for e in entries {
         bytes.extend_from_slice(e);
     }
+    assert!(bytes.len() <= AREA_BYTES, "no area holds it");
     bytes.resize(AREA_BYTES, 0);
     bytes
 }
@@ -61,6 +90,11 @@ pub fn guarded<T>(register: &mut [u8], call: impl FnOnce(&mut [u8]) -> T) -> T {
     answer
 }
 
+/// Accepted, with this flag and advance.
+pub fn taken(flag: u8, advance: i64) -> Answer {
+    Answer { number: Number::Accepted, flag, advance }
+}
+
 /// Refused: a number, and zeros beside it.
 pub fn refusal(number: Number) -> Answer {
     Answer { number, flag: 0, advance: 0 }
@@ -76,12 +110,13 @@ pub fn read(day: u16, letter: u8, value: u32) -> Submission {
 }
 
 /// One call of each kind on a place.
-pub fn each_call(place: u16) -> [Call; 4] {
+pub fn each_call(place: u16) -> [Call; 5] {
     [
         Call::Enrol { place, dials: 4, capacity: 1 },
         Call::Submit { place, read: read(300, letter::CYCLIC, 30) },
         Call::Withdraw { place, day: 100, value: 10 },
         Call::Report { place },
+        Call::Fold { place },
     ]
 }
 
@@ -99,5 +134,18 @@ pub fn refuses(register: &[u8], call: Call, number: Number, what: &str) {
         let length = guarded(&mut after, |r| play(&entry, r, &mut text));
         assert_eq!(&text[..length], line.as_bytes(), "{call} played, {what}");
         assert_eq!(after, register, "{call} played changed a byte, {what}");
+    }
+}
+
+/// Holds every call that reads this area to 4 and to changing no byte.
+pub fn is_damaged(area: &[u8], clause: &str) {
+    for place in [0, 63] {
+        let register = with_area(place, area);
+        for call in each_call(place) {
+            // An enrolment asks only whether the area is all zero.
+            let number = if matches!(call, Call::Enrol { .. }) { Number::Enrolled } else { Number::Damaged };
+            refuses(&register, call, number, clause);
+        }
+        assert!(journal(&register, place).is_empty(), "{clause}");
     }
 }

@@ -1,91 +1,42 @@
 //! Random calls and random registers for the comparison.
 //!
 //! A call is picked with an eye on the register that it meets, so that lists get past the first checks and reach deep
-//! states: long journals, rollovers, held reads, withdrawals. What an answer should be is not decided here.
+//! states: long journals, rollovers, held reads, withdrawals, folds. What an answer should be is not decided here.
 
 // Each test uses its part.
 #![allow(dead_code, unused_imports)]
 
+mod idle;
+mod journals;
+mod meter;
 mod random;
+mod reads;
 mod registers;
 mod settings;
 mod shorten;
 
+pub use idle::Idle;
 pub use random::Random;
 pub use registers::{any_register, misfit_register};
 pub use settings::{say, seed, setting};
 pub use shorten::{hexadecimal, shortened};
 
-use necktureen::{date_of, day_of, Call, Date, Submission, AREA_BYTES};
+use meter::{look_at, Meter, Read};
+use necktureen::{Call, AREA_BYTES};
+use reads::submission;
 
-// ---- What a register holds, as far as picking a call needs it ----
-
-#[derive(Clone, Copy)]
-struct Read {
-    day: u16,
-    value: u32,
-    letter: u8,
-    indicator: u8,
-}
-
-struct Meter {
-    /// 10^n; of a damaged plate any power will do.
-    turn: i64,
-    capacity: i64,
-    standing: Vec<(Read, u8)>,
-    withdrawn: Vec<Read>,
-    held: Option<Read>,
-}
-
-fn look_at(area: &[u8]) -> Meter {
-    let mut meter = Meter {
-        turn: 10_i64.pow(u32::from(area[1]).clamp(4, 9)),
-        capacity: i64::from(u32::from_le_bytes([area[2], area[3], area[4], area[5]])),
-        standing: Vec::new(),
-        withdrawn: Vec::new(),
-        held: None,
-    };
-    for entry in area[6..].chunks_exact(10).take_while(|entry| entry[0] != 0) {
-        let read = Read {
-            day: u16::from_le_bytes([entry[1], entry[2]]),
-            value: u32::from_le_bytes([entry[3], entry[4], entry[5], entry[6]]),
-            letter: entry[7],
-            indicator: entry[8],
-        };
-        match entry[0] {
-            2 => meter.standing.push((read, entry[9])),
-            3 => meter.withdrawn.push(read),
-            _ => meter.held = Some(read),
-        }
-    }
-    meter
-}
-
-impl Meter {
-    /// The last read's advance and days, where two stand.
-    fn pace(&self) -> Option<(i64, i64)> {
-        let [.., (before, _), (last, flag)] = self.standing[..] else {
-            return None;
-        };
-        let advance = i64::from(last.value) - i64::from(before.value) + i64::from(flag) * self.turn;
-        Some((advance, (i64::from(last.day) - i64::from(before.day)).max(1)))
-    }
-}
-
-// ---- Calls ----
-
-/// A call on one of these places, now and then on any other.
-pub fn call(random: &mut Random, register: &[u8], places: &[u16]) -> Call {
+/// A call on one of these places, now and then on any other. Some are of reads that idle terminals still have.
+pub fn call(random: &mut Random, idle: &mut Idle, register: &[u8], places: &[u16]) -> Call {
     let place = if random.once_in(60) { any_place(random) } else { random.pick(places) };
     let start = AREA_BYTES * usize::from(place);
     let Some(area) = register.get(start..start + AREA_BYTES) else {
-        return call_on(random, place, &look_at(&[0; AREA_BYTES]));
+        return call_on(random, idle, place, &look_at(&[0; AREA_BYTES]));
     };
     let enrolled = area.iter().any(|&byte| byte != 0);
     if !enrolled && !random.once_in(6) {
         return enrolment(random, place);
     }
-    call_on(random, place, &look_at(area))
+    call_on(random, idle, place, &look_at(area))
 }
 
 /// Any place, those that two bytes hold and one does not too.
@@ -97,12 +48,21 @@ fn any_place(random: &mut Random) -> u16 {
     }
 }
 
-fn call_on(random: &mut Random, place: u16, meter: &Meter) -> Call {
+fn call_on(random: &mut Random, idle: &mut Idle, place: u16, meter: &Meter) -> Call {
+    if random.once_in(meter.calls_to_a_fold()) {
+        idle.keep(random, place, meter);
+        return Call::Fold { place };
+    }
     match random.index(40) {
         0 => enrolment(random, place),
         1..=2 => Call::Report { place },
         3..=7 => withdrawal(random, place, meter),
-        _ => Call::Submit { place, read: submission(random, meter) },
+        // Down to the oldest kept read, and on.
+        _ if meter.is_carried && meter.standing.len() <= 3 && random.once_in(3) => withdrawal(random, place, meter),
+        _ => {
+            let idle = idle.of(random, place);
+            Call::Submit { place, read: submission(random, idle, meter) }
+        }
     }
 }
 
@@ -142,146 +102,4 @@ fn withdrawal(random: &mut Random, place: u16, meter: &Meter) -> Call {
         _ => last,
     };
     Call::Withdraw { place, day: read.day, value: read.value }
-}
-
-fn submission(random: &mut Random, meter: &Meter) -> Submission {
-    let (read, reread) = match (random.index(24), meter.held) {
-        (0, _) if !meter.standing.is_empty() => (random.pick(&meter.standing).0, 0),
-        (1, _) if !meter.withdrawn.is_empty() => (random.pick(&meter.withdrawn), random.once_in(3) as u8),
-        (2..=12, Some(held)) => (held, 1),
-        (13, Some(held)) => (held, 0),
-        _ => (next_read(random, meter), random.once_in(30) as u8),
-    };
-    let late = if random.once_in(3) { 0 } else { random.between(0, 40) as u16 };
-    let mut submission = Submission {
-        submitted: read.day.saturating_add(late),
-        day: read.day,
-        value: read.value,
-        letter: read.letter,
-        indicator: read.indicator,
-        reread,
-    };
-    if random.once_in(7) {
-        change_a_field(random, meter, &mut submission);
-    }
-    submission
-}
-
-fn change_a_field(random: &mut Random, meter: &Meter, read: &mut Submission) {
-    match random.index(12) {
-        0 => read.value = u32::MAX,
-        1 => read.value = (meter.turn + random.between(-1, 1)) as u32,
-        2 => read.value = (i64::from(read.value) + random.between(-1, 1)).max(0) as u32,
-        3 => read.value = random.next() as u32,
-        4 => read.letter = random.byte(),
-        5 => read.letter = random.pick(b"IOFCURTSXYE"),
-        6 => read.indicator = random.pick(&[0, 1, 2, 2, 3, 255]),
-        7 => read.reread = random.pick(&[0, 1, 1, 2, 255]),
-        8 => read.day = 0,
-        9 => read.submitted = read.day.wrapping_sub(1),
-        10 => read.day = read.day.wrapping_add(random.between(-2, 2) as u16),
-        _ => read.submitted = random.next() as u16,
-    }
-}
-
-/// The reads of one meter in eight all share a bucket.
-fn next_read(random: &mut Random, meter: &Meter) -> Read {
-    let read = match meter.standing.last() {
-        None => opening_read(random, meter),
-        Some(&(last, _)) => following_read(random, meter, last),
-    };
-    let value = if meter.capacity % 8 == 0 { in_first_bucket(read.day, read.value) } else { read.value };
-    Read { value, ..read }
-}
-
-/// The least value from this one on with which a read of this day is in the first of the 256 buckets that the library keeps
-/// withdrawn reads in: day and value together are a multiple of 256.
-fn in_first_bucket(day: u16, value: u32) -> u32 {
-    value + (256 - (u32::from(day) + value) % 256) % 256
-}
-
-/// A first read, often near all nines. Days start low, so that many reads fit after it.
-fn opening_read(random: &mut Random, meter: &Meter) -> Read {
-    let day = match random.index(8) {
-        0 => random.between(1, 65_535),
-        1 => random.between(65_000, 65_535),
-        // In 2099 or 2100, which is no leap year.
-        2 => random.between(36_161, 36_890),
-        _ => random.between(1, 3000),
-    };
-    let after = meter.withdrawn.iter().map(|read| i64::from(read.day)).max().unwrap_or(0);
-    let day = if random.once_in(2) { (after + random.between(0, 30)).clamp(1, 65_535) } else { day };
-    let value = match random.index(4) {
-        0 => random.between(0, meter.turn - 1),
-        1 => random.between(0, meter.turn / 10),
-        _ => random.between(meter.turn * 3 / 4, meter.turn - 1),
-    };
-    let letter = if random.once_in(12) { letter(random) } else { random.pick(b"IO") };
-    let indicator = if random.once_in(12) { random.pick(&[1, 2]) } else { 0 };
-    Read { day: day as u16, value: value as u32, letter, indicator }
-}
-
-fn following_read(random: &mut Random, meter: &Meter, last: Read) -> Read {
-    let days = match random.index(9) {
-        0 => 1,
-        1 => random.between(1, 400),
-        2 => random.between(1, 1500),
-        3 => random.between(-30, 2),
-        4 => days_to_new_year(last.day) - random.between(0, 1),
-        _ => random.pick(&[30, 90, 180, 180, 365]),
-    };
-    let aim = i64::from(last.value) + advance(random, meter, last, days);
-    let value = if random.once_in(40) { aim.clamp(0, meter.turn) } else { aim.rem_euclid(meter.turn) };
-    let turned_back = value < i64::from(last.value);
-    let indicator = match random.index(8) {
-        0..=5 if !turned_back => 0,
-        _ => random.pick(&[0, 1, 2, 2]),
-    };
-    let day = (i64::from(last.day) + days).clamp(0, 65_535);
-    Read { day: day as u16, value: value as u32, letter: letter(random), indicator }
-}
-
-fn days_to_new_year(day: u16) -> i64 {
-    let year = date_of(day).map_or(2000, |date| date.year + 1);
-    let new_year = day_of(Date { year, month: 1, day: 1 }).unwrap_or(u16::MAX);
-    i64::from(new_year) - i64::from(day)
-}
-
-/// How far to go on from the last read: like the time before, or at an edge of one of the rules.
-fn advance(random: &mut Random, meter: &Meter, last: Read, days: i64) -> i64 {
-    let (turn, days) = (meter.turn, days.max(1));
-    // By either length of a year: what the other one lets pass is worth a call too.
-    let by_capacity = meter.capacity * days / random.pick(&[365, 366]);
-    let room = by_capacity.min(turn / 11);
-    let edge = random.between(-2, 2);
-    let (usual, usual_days) = meter.pace().unwrap_or((random.between(0, room), days));
-    let hundredth_of_usual = |percent: i64| percent * usual * days / (100 * usual_days);
-    match random.index(24) {
-        0 => hundredth_of_usual(20) + edge,
-        1 => hundredth_of_usual(200) + edge,
-        2 => by_capacity + edge,
-        3 => -1000 + edge,
-        4 => random.between(-1100, 10),
-        // Onto the marks of the first test, and onto all nines.
-        5 => turn / 10 - i64::from(last.value) + edge,
-        6 => turn * 9 / 10 - i64::from(last.value) + edge,
-        7 => turn - 1 - i64::from(last.value) - random.between(0, 3),
-        8 => turn / 10 + edge,
-        9 => random.between(0, turn - 1),
-        10..=11 => random.between(0, room),
-        _ => {
-            let percent = random.between(40, 170);
-            hundredth_of_usual(percent).clamp(0, room.max(1))
-        }
-    }
-}
-
-fn letter(random: &mut Random) -> u8 {
-    match random.index(60) {
-        0 => random.byte(),
-        1..=2 => random.pick(b"IO"),
-        3 => b'F',
-        4..=6 => b'Y',
-        _ => random.pick(b"CCCCURTSXE"),
-    }
 }

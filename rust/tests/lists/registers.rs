@@ -1,6 +1,9 @@
 //! Random registers: areas of every sort, and lengths that do not fit.
 
-use super::{in_first_bucket, plate, Random, Read};
+use super::journals::{any_read, put_carry, sound_area, write_meter, write_read};
+use super::journals::{CARRY_BYTES, ENTRY_BYTES, METER_BYTES};
+use super::meter::{head_bytes, look_at};
+use super::Random;
 use necktureen::{AREA_BYTES, REGISTER_BYTES};
 
 /// A register of 64 areas of every sort: sound, damaged, random, all zero.
@@ -31,77 +34,19 @@ fn any_area(random: &mut Random) -> Vec<u8> {
     area
 }
 
-fn write_meter(random: &mut Random, area: &mut [u8]) -> i64 {
-    let (dials, capacity) = plate(random);
-    area[..2].copy_from_slice(&[1, dials]);
-    area[2..6].copy_from_slice(&capacity.to_le_bytes());
-    10_i64.pow(u32::from(dials))
-}
-
-fn write_read(entry: &mut [u8], kind: u8, read: Read, flag: u8) {
-    entry[0] = kind;
-    entry[1..3].copy_from_slice(&read.day.to_le_bytes());
-    entry[3..7].copy_from_slice(&read.value.to_le_bytes());
-    entry[7..10].copy_from_slice(&[read.letter, read.indicator, flag]);
-}
-
 /// A few entries whose fields are in range and whose order means nothing.
 fn random_entries(random: &mut Random, area: &mut [u8]) {
     let turn = write_meter(random, area);
     let count = random.index(5);
-    for entry in area[6..].chunks_exact_mut(10).take(count) {
+    if random.once_in(3) {
+        let [first, folded, flagged] = [turn, 4, 3].map(|most| random.between(0, most));
+        put_carry(&mut area[METER_BYTES..], first as u32, folded as u16, flagged as u16);
+    }
+    let start = head_bytes(area);
+    for entry in area[start..].chunks_exact_mut(ENTRY_BYTES).take(count) {
         let kind = random.pick(&[2, 2, 3, 4]);
         let flag = random.pick(&[0, 0, 1]);
         write_read(entry, kind, any_read(random, turn), flag);
-    }
-}
-
-fn any_read(random: &mut Random, turn: i64) -> Read {
-    let letter = random.pick(b"IOFCURTSXYE");
-    let indicator = if letter == b'I' || letter == b'O' { 0 } else { random.pick(&[0, 1, 2]) };
-    let value = random.between(0, turn - 1) as u32;
-    Read { day: random.between(1, 200) as u16, value, letter, indicator }
-}
-
-/// A journal meant to be sound, also one that no list of calls leads to.
-fn sound_area(random: &mut Random, area: &mut [u8]) {
-    let turn = write_meter(random, area);
-    let any_count = random.index(51);
-    let count = random.pick(&[0, 1, 2, 3, 4, 5, 10, 25, 48, 49, 50, any_count]);
-    let withdrawn_in = random.pick(&[2, 4, 100]);
-    let held = count > 1 && random.once_in(4);
-    let steady = random.once_in(2);
-    let one_bucket = random.once_in(4);
-    let pace = random.between(0, turn / 11);
-    let mut last: Option<Read> = None;
-    let mut final_stands = false;
-    for (position, entry) in area[6..].chunks_exact_mut(10).take(count).enumerate() {
-        let days = if steady { 180 } else { random.between(1, 400) };
-        let (day, value) = match last {
-            None => (random.between(1, 2000), random.between(turn / 2, turn - 1)),
-            Some(read) if steady => (i64::from(read.day) + days, i64::from(read.value) + pace),
-            Some(read) => (i64::from(read.day) + days, i64::from(read.value) + random.between(0, turn / 12)),
-        };
-        let flag = u8::from(value >= turn && !random.once_in(4));
-        let value = if random.once_in(20) { random.between(0, turn - 1) } else { value % turn };
-        let mut read = Read { day: day as u16, value: value as u32, ..any_read(random, turn) };
-        if one_bucket {
-            let near = value.min(turn - 1280) + 256 * random.between(0, 3);
-            read.value = in_first_bucket(read.day, near as u32);
-        }
-        if held && position + 1 == count && last.is_some() {
-            read.letter = if final_stands { random.pick(b"CURTSXE") } else { random.pick(b"CURTSFXE") };
-            write_read(entry, 4, read, flag);
-        } else if random.once_in(withdrawn_in) {
-            write_read(entry, 3, read, random.pick(&[0, 0, 1]));
-        } else {
-            let later = if final_stands || !random.once_in(30) { random.pick(b"CCURTSXYE") } else { b'F' };
-            (read.letter, read.indicator) =
-                if last.is_none() { (random.pick(b"IO"), 0) } else { (later, read.indicator) };
-            final_stands |= read.letter == b'F';
-            write_read(entry, 2, read, if last.is_none() { 0 } else { flag });
-            last = Some(read);
-        }
     }
 }
 
@@ -126,22 +71,23 @@ fn damage_bytes(random: &mut Random, area: &mut [u8]) {
 
 /// One field of one entry takes a value that breaks, or nearly breaks, a rule of soundness.
 fn damage_an_entry(random: &mut Random, area: &mut [u8]) {
-    let count = area[6..].chunks_exact(10).take_while(|entry| entry[0] != 0).count();
+    let start = head_bytes(area);
+    if start > METER_BYTES && random.once_in(2) {
+        return damage_a_carry(random, area);
+    }
+    let count = area[start..].chunks_exact(ENTRY_BYTES).take_while(|entry| entry[0] != 0).count();
     if count == 0 {
         return damage_bytes(random, area);
     }
-    let other: [u8; 10] = area[6 + 10 * random.index(count)..][..10].try_into().expect("ten bytes");
-    let entry = &mut area[6 + 10 * random.index(count)..][..10];
+    let turn = 10_u32.pow(u32::from(area[1]));
+    let other: [u8; 10] = area[start + ENTRY_BYTES * random.index(count)..][..10].try_into().expect("ten bytes");
+    let entry = &mut area[start + ENTRY_BYTES * random.index(count)..][..ENTRY_BYTES];
     match random.index(12) {
         0 => entry[0] = random.pick(&[1, 2, 3, 4, 5]),
         1 => entry[1..3].copy_from_slice(&other[1..3]),
         2 => entry[1..7].copy_from_slice(&other[1..7]),
         3 => entry[1..3].copy_from_slice(&random.pick(&[0_u16, 1, 65_535]).to_le_bytes()),
-        4 => {
-            let turn = 10_u32.pow(u32::from(area[1]));
-            let value = random.pick(&[turn - 1, turn, turn + 1, u32::MAX]);
-            area[6 + 10 * random.index(count)..][3..7].copy_from_slice(&value.to_le_bytes());
-        }
+        4 => entry[3..7].copy_from_slice(&random.pick(&[turn - 1, turn, turn + 1, u32::MAX]).to_le_bytes()),
         5 => entry[7] = random.pick(b"IOFCURTSXYEiZ"),
         6 => entry[7] = random.byte(),
         7 => entry[7] = random.pick(b"IOF"),
@@ -149,6 +95,23 @@ fn damage_an_entry(random: &mut Random, area: &mut [u8]) {
         9 => entry[9] = random.pick(&[0, 1, 2]),
         10 => entry.fill(0),
         _ => entry.copy_from_slice(&other),
+    }
+}
+
+/// The same of a carry: at the edge of one of its clauses, or with its bytes out of place.
+fn damage_a_carry(random: &mut Random, area: &mut [u8]) {
+    let turn = 10_u32.pow(u32::from(area[1]));
+    let oldest = look_at(area).standing.first().map_or(1, |&(read, _)| read.day);
+    let carry = &mut area[METER_BYTES..][..CARRY_BYTES];
+    let folded = u16::from_le_bytes([carry[5], carry[6]]);
+    match random.index(7) {
+        0 => carry[1..5].copy_from_slice(&random.pick(&[turn - 1, turn, turn + 1, u32::MAX]).to_le_bytes()),
+        1 => carry[5..7].copy_from_slice(&(oldest.wrapping_add(random.between(-1, 1) as u16)).to_le_bytes()),
+        2 => carry[5..9].copy_from_slice(&random.pick(&[[0, 0, 0, 0], [1, 0, 1, 0], [0, 1, 1, 0], [1, 0, 0, 1]])),
+        3 => carry[7..9].copy_from_slice(&(folded.wrapping_add(random.between(-1, 1) as u16)).to_le_bytes()),
+        4 => carry[0] = random.pick(&[0, 1, 2, 3, 4, 6]),
+        5 => area.copy_within(METER_BYTES..AREA_BYTES - CARRY_BYTES, METER_BYTES + CARRY_BYTES),
+        _ => area.copy_within(METER_BYTES + 1.., METER_BYTES),
     }
 }
 

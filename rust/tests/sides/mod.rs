@@ -23,6 +23,12 @@ impl Pair {
         Pair { wide, start: before, peer: register.to_vec() }
     }
 
+    /// The area of a place in the peer's register, if it has one.
+    pub fn peer_area(&self, place: u16) -> Option<[u8; AREA_BYTES]> {
+        let area = self.peer.get(AREA_BYTES * usize::from(place)..)?.first_chunk();
+        area.copied()
+    }
+
     fn library(&mut self) -> &mut [u8] {
         &mut self.wide[self.start..self.start + self.peer.len()]
     }
@@ -68,12 +74,13 @@ impl Pair {
 }
 
 pub fn peer_reply(register: &mut [u8], call: &Call) -> Reply {
-    use peer::{enrol, report, submit, withdraw};
+    use peer::{enrol, fold, report, submit, withdraw};
     match *call {
         Call::Enrol { place, dials, capacity } => Reply::Answer(enrol(register, place, dials, capacity)),
         Call::Submit { place, read } => Reply::Answer(submit(register, place, read)),
         Call::Withdraw { place, day, value } => Reply::Answer(withdraw(register, place, day, value)),
         Call::Report { place } => Reply::Report(report(register, place)),
+        Call::Fold { place } => Reply::Answer(fold(register, place)),
         other => panic!("the peer has no call {other}"),
     }
 }
@@ -118,8 +125,9 @@ impl List {
 
     fn drop_entries(&mut self) {
         for at in 0..self.start.len() / AREA_BYTES {
+            let head = if self.start[AREA_BYTES * at + 6] == 5 { 15 } else { 6 };
             // From the last to the first, so that those still to be tried stay where they are.
-            for entry in (6..AREA_BYTES - 10).step_by(10).rev() {
+            for entry in (head..AREA_BYTES - 10).step_by(10).rev() {
                 let mut emptier = self.clone();
                 let area = &mut emptier.start[AREA_BYTES * at..][..AREA_BYTES];
                 area.copy_within(entry + 10.., entry);

@@ -1,6 +1,9 @@
 //! What a comparison reached: every number, and the states that take a long way to reach.
 
+mod folds;
+
 use super::peer::calendar;
+use folds::Dropped;
 use necktureen::{
     entries, indicator, letter, Answer, Call, Entry, Number, Read, Reply, Submission, AREA_BYTES, REGISTER_BYTES,
 };
@@ -10,12 +13,15 @@ use std::fmt::Write as _;
 const NUMBERS: usize = Number::ALL.len();
 const PLACES: usize = REGISTER_BYTES / AREA_BYTES;
 
+pub type Area = [u8; AREA_BYTES];
+
 /// How often each number was answered, and each state that takes a long way to reach.
 pub struct Tally {
     numbers: [u64; NUMBERS],
     deep: BTreeMap<&'static str, u64>,
     /// The volume query that left each place's held read.
     query: [Option<Number>; PLACES],
+    dropped: Dropped,
 }
 
 const DEEP: [&str; 25] = [
@@ -48,38 +54,45 @@ const DEEP: [&str; 25] = [
 
 impl Tally {
     pub fn new() -> Tally {
-        let deep = DEEP.iter().map(|&name| (name, 0)).collect();
-        Tally { numbers: [0; NUMBERS], deep, query: [None; PLACES] }
+        let deep = DEEP.iter().chain(folds::STATES).map(|&name| (name, 0)).collect();
+        Tally { numbers: [0; NUMBERS], deep, query: [None; PLACES], dropped: Dropped::default() }
     }
 
     pub fn calls(&self) -> u64 {
         self.numbers.iter().sum()
     }
 
-    /// A new list begins: nothing is held.
+    /// A new list begins: nothing is held, and nothing was dropped.
     pub fn begin(&mut self) {
         self.query = [None; PLACES];
+        self.dropped = Dropped::default();
     }
 
     fn see(&mut self, name: &'static str) {
         *self.deep.get_mut(name).expect("a name of the table") += 1;
     }
 
-    pub fn count(&mut self, call: &Call, reply: Reply, register: &[u8]) {
+    /// Counts a call by its reply and by the area of its place, before it and after, if the register has one.
+    pub fn count(&mut self, call: &Call, reply: Reply, before: Option<Area>, after: Option<Area>) {
         self.numbers[reply.number() as usize] += 1;
-        let (place, Reply::Answer(answer)) = (usize::from(call.place()), reply) else {
+        let place = usize::from(call.place());
+        let (Some(before), Some(after), true) = (before, after, place < PLACES) else {
             return;
         };
-        if place >= self.query.len() {
-            return;
+        for name in folds::states(call, reply, &before, &after).into_iter().chain(self.dropped.state(call, reply)) {
+            self.see(name);
         }
+        self.dropped.enter(call, reply, &before, &after);
+        let Reply::Answer(answer) = reply else {
+            return;
+        };
         match *call {
             Call::Submit { read, .. } => {
                 if answer.number == Number::Accepted {
-                    self.count_accepted(place, read, answer, register);
+                    self.count_accepted(read, answer, &after);
                 }
                 if [Number::Accepted, Number::Capacity].contains(&answer.number) {
-                    self.count_edge(&register[AREA_BYTES * place..][..AREA_BYTES], read, answer.number);
+                    self.count_edge(&after, read, answer.number);
                 }
                 self.count_query(place, read, answer.number);
             }
@@ -88,8 +101,7 @@ impl Tally {
         }
     }
 
-    fn count_accepted(&mut self, place: usize, read: Submission, answer: Answer, register: &[u8]) {
-        let area = &register[AREA_BYTES * place..][..AREA_BYTES];
+    fn count_accepted(&mut self, read: Submission, answer: Answer, area: &Area) {
         self.see(DEEP[usize::from(area[1]) - 4]);
         match (answer.flag, read.indicator) {
             (1, indicator::NOT_SET) => self.see("a rollover accepted, indicator not set"),
@@ -110,13 +122,13 @@ impl Tally {
         if read.day == 65_535 {
             self.see("a read of day 65,535 accepted");
         }
-        if area[496] == 2 {
+        if area[6] != 5 && area[496] == 2 {
             self.see("the 50th entry written");
         }
     }
 
     /// Reads at the edge of the capacity: one more would be refused, or one less pass.
-    fn count_edge(&mut self, area: &[u8], read: Submission, number: Number) {
+    fn count_edge(&mut self, area: &Area, read: Submission, number: Number) {
         // A Y has no capacity check, and a rollover goes further than from value to value.
         let by_values = |last: &Read| read.letter != letter::RECONNECTION && last.value <= read.value;
         let Some(last) = last_before(area, read.day).filter(by_values) else {
@@ -177,12 +189,12 @@ impl Tally {
     }
 }
 
-fn capacity(area: &[u8]) -> i64 {
+fn capacity(area: &Area) -> i64 {
     i64::from(u32::from_le_bytes([area[2], area[3], area[4], area[5]]))
 }
 
 /// The last standing read before a day.
-fn last_before(area: &[u8], day: u16) -> Option<Read> {
+fn last_before(area: &Area, day: u16) -> Option<Read> {
     let standing = entries(area).filter(|entry| matches!(entry, Entry::Standing(_))).filter_map(|entry| entry.read());
     standing.filter(|read| read.day < day).last()
 }

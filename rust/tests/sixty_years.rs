@@ -1,0 +1,141 @@
+//! A site that is read every month for sixty years, and whose journal is folded whenever it is full. After every call its
+//! report is held to what is counted here, without a look at the register.
+
+mod common;
+
+use common::*;
+use necktureen::{
+    day_of, enrol, fold, journal, report, submit, withdraw, Answer, Date, Number, Report, Submission, AREA_BYTES,
+};
+
+const TURN: i64 = 10_000;
+/// What the dials show at the first read.
+const START: i64 = 9_000;
+const MONTHS: u16 = 720;
+
+/// How far the dials go in a month.
+fn advance_of(month: u16) -> i64 {
+    120 + i64::from(month) * 37 % 61
+}
+
+fn first_of(month: u16) -> u16 {
+    let (year, month) = (2000 + month / 12, 1 + (month % 12) as u8);
+    day_of(Date { year, month, day: 1 }).expect("a day of the calendar")
+}
+
+/// What the dials show after so many m³, and how often they have turned by then.
+fn dials_after(total: i64) -> (u32, i64) {
+    (((START + total) % TURN) as u32, (START + total) / TURN)
+}
+
+/// The register, and what was counted.
+struct Site {
+    register: Vec<u8>,
+    standing: u16,
+    flagged: u16,
+    total: i64,
+    folds: u32,
+    flags_withdrawn: u32,
+    /// Withdrawn reads that were sent again: how many were refused with 8, and how many with 9 to 12.
+    known: u32,
+    dropped: u32,
+}
+
+impl Site {
+    fn new() -> Site {
+        let mut register = zeros();
+        assert_eq!(enrol(&mut register, 40, 4, 5000).number, Number::Accepted);
+        Site { register, standing: 0, flagged: 0, total: 0, folds: 0, flags_withdrawn: 0, known: 0, dropped: 0 }
+    }
+
+    fn is_reported(&self) {
+        let Site { standing, flagged, total, .. } = *self;
+        let expected = Report { number: Number::Accepted, standing, flagged, total };
+        assert_eq!(report(&self.register, 40), expected);
+    }
+
+    /// The read of a day, on which the total is this.
+    fn read(&self, day: u16, total: i64) -> Submission {
+        let letter = if self.standing == 0 { b'I' } else { b'C' };
+        read(day, letter, dials_after(total).0)
+    }
+
+    /// Sends a read. If the journal is full it is folded, and the read sent again.
+    fn take(&mut self, day: u16, total: i64) {
+        let read = self.read(day, total);
+        let mut answer = submit(&mut self.register, 40, read);
+        if answer.number == Number::Full {
+            self.is_reported();
+            self.fold();
+            answer = submit(&mut self.register, 40, read);
+        }
+        let flag = dials_after(total).1 - dials_after(self.total).1;
+        let expected = Answer { number: Number::Accepted, flag: flag as u8, advance: total - self.total };
+        assert_eq!(answer, expected, "day {day}");
+        self.standing += 1;
+        self.flagged += flag as u16;
+        self.total = total;
+        self.is_reported();
+    }
+
+    fn fold(&mut self) {
+        let entries = journal(&self.register, 40).len();
+        assert_eq!(entries, if self.folds == 0 { 506 } else { 505 });
+        assert_eq!(guarded(&mut self.register, |r| fold(r, 40)), refusal(Number::Accepted));
+        self.is_reported();
+        assert_eq!(fold(&mut self.register, 40), refusal(Number::NoFold), "twice in a row");
+        self.is_reported();
+        self.folds += 1;
+    }
+
+    /// A misread: sent, and withdrawn again.
+    fn misread(&mut self, day: u16, total: i64) {
+        let (before, flagged) = (self.total, self.flagged);
+        self.take(day, total);
+        let answer = withdraw(&mut self.register, 40, day, dials_after(total).0);
+        let flag = (self.flagged - flagged) as u8;
+        assert_eq!(answer, Answer { number: Number::Accepted, flag, advance: before - total });
+        (self.standing, self.flagged, self.total) = (self.standing - 1, flagged, before);
+        self.flags_withdrawn += u32::from(flag);
+        self.is_reported();
+    }
+
+    /// A read that was withdrawn is refused whenever it comes again, and changes no byte.
+    fn comes_again(&mut self, day: u16, total: i64) {
+        let before = self.register.clone();
+        let number = submit(&mut self.register, 40, read(day, b'C', dials_after(total).0)).number;
+        match number {
+            Number::Withdrawn => self.known += 1,
+            Number::At | Number::Eh | Number::Bf | Number::BackDated => self.dropped += 1,
+            other => panic!("a withdrawn read of day {day} is answered {other}"),
+        }
+        assert_eq!(self.register, before);
+        self.is_reported();
+    }
+}
+
+#[test]
+fn a_report_is_the_running_total_for_sixty_years() {
+    let mut site = Site::new();
+    site.is_reported();
+    let (mut total, mut misreads) = (0, Vec::new());
+    site.take(first_of(0), total);
+    for month in 1..=MONTHS {
+        let day = first_of(month);
+        total += advance_of(month);
+        if month % 5 == 0 {
+            site.misread(day, total + 3);
+            misreads.push((day, total + 3));
+        }
+        site.take(day, total);
+        for &(day, total) in misreads.iter().rev().step_by(6).take(3) {
+            site.comes_again(day, total);
+        }
+    }
+    assert_eq!(site.standing, MONTHS + 1);
+    assert_eq!(i64::from(site.flagged), (START + total) / TURN);
+    assert!(site.flagged >= 10 && site.folds >= 15, "{} turns, {} folds", site.flagged, site.folds);
+    assert!(site.flags_withdrawn >= 1, "no misread was taken as a rollover");
+    assert!(site.known >= 100 && site.dropped >= 100, "{} known, {} dropped", site.known, site.dropped);
+    assert!(site.register[..AREA_BYTES * 40].iter().all(|&byte| byte == 0), "another area was written");
+}
