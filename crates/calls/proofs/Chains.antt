@@ -51,6 +51,11 @@ module _ (meter : ℕ) where
   unfolding isAccepted
   accepted-there x h = rw h
 
+pub run-whole : Local → (calls : List Call) (register : List ℕ) → Whole register → Whole (registerAfter calls register)
+unfolding registerAfter
+run-whole local [] register whole = whole
+run-whole local (call ∷ calls) register whole = run-whole local calls (step call register .register) (step-whole local register whole call)
+
 module _ (local : Local) (effects : Effects) (meter : ℕ) (near : Near meter) where
   -- one call of a run
   module _ (call : Call) (register : List ℕ) (whole : Whole register) (l : Ledger) (good : Good (areaOf meter register) l) where
@@ -98,7 +103,7 @@ zero-area : (meter : ℕ) → allZero (areaOf meter zeroRegister) ≡ true
 unfolding zeroRegister areaOf
 zero-area meter = zero-take areaBytes _ (zero-drop (areaBytes * meter) _ (zero-replicate registerBytes))
 
-start-good : (meter : ℕ) → Good (areaOf meter zeroRegister) emptyLedger
+pub start-good : (meter : ℕ) → Good (areaOf meter zeroRegister) emptyLedger
 unfolding emptyLedger
 start-good meter = inl (record { zero = zero-area meter; standing-is = refl; advances-are = refl; flags-are = refl; withdrawn-is = refl; folded-is = refl })
 

@@ -10,11 +10,12 @@ use native.Mathlib.Decide.{decLt}
 use borrow.Author.Tests.{eqb-true, eqb-false, eq-eqb, leb-false, leb-true, lt-leb, le-leb}
 use lib.Dec.{eqb, leb}
 use lib.ListN.{length}
+use Rattle.terms.specs.Number.{noMeter}
 use Rattle.register.specs.Area.{areaBytes, areasIn, registerBytes, areaOf, withArea}
 use Rattle.register.proofs.Areas.{area-room, same-areas, area-length, with-length, area-same, area-other}
 use Rattle.calls.specs.declared.call.Call.{Call}
 use Rattle.calls.specs.declared.call.Reply.{Reply}
-use Rattle.calls.specs.Calls.{act, placeOf, isMisfit, isNoPlace, placeNumber, onArea, Done, step}
+use Rattle.calls.specs.Calls.{act, placeOf, refusalOf, isMisfit, isNoPlace, placeNumber, onArea, Done, done, step}
 use Rattle.calls.proofs.Bools.{both, by-test}
 use Rattle.calls.specs.Play.{Exchange, exchange, exchangeIf, exchanges, registerAfter, numberOf, mayChange, names, isPicked, picked, callsOf}
 
@@ -70,9 +71,12 @@ module _ (local : Local) (register : List ℕ) (whole : Whole register) (call : 
     pub own-area-after : areaOf place (step call register .register) ≡ new
     own-area-after = ap (areaOf place) put-back ∙ area-same place new register new-length (room place register near whole)
 
-  refuses : areasIn register ≤ place → step call register .register ≡ register
+  refuses : areasIn register ≤ place → step call register ≡ done (refusalOf call noMeter) register
   unfolding step placeNumber isNoPlace
   refuses far = rw (fitting, le-leb (areasIn register) place far)
+
+  left : areasIn register ≤ place → step call register .register ≡ register
+  left far = ap (λ (d : Done). d .register) (refuses far)
 
   -- case on whether the register has the place
   by-place {ℓ} : {X : Type ℓ} → (place < areasIn register → X) → (areasIn register ≤ place → X) → X
@@ -82,17 +86,26 @@ module _ (local : Local) (register : List ℕ) (whole : Whole register) (call : 
   step-whole =
       by-place
       (λ near. ap length (put-back near) ∙ with-length place new register (new-length near) (room place register near whole) ∙ whole)
-      (λ far. ap length (refuses far) ∙ whole)
+      (λ far. ap length (left far) ∙ whole)
 
   pub other-area : (p : ℕ) → (place ≡ p → ⊥) → areaOf p (step call register .register) ≡ areaOf p register
   other-area p apart =
       by-place
       (λ near. ap (areaOf p) (put-back near) ∙ area-other place new register (new-length near) (room place register near whole) p (side (decLt p place)))
-      (λ far. ap (areaOf p) (refuses far))
+      (λ far. ap (areaOf p) (left far))
     where
       side : Dec (p < place) → (p < place) ⊎ (place < p)
       side (yes l) = inl l
       side (no l) = inr (omega arith)
+
+-- a call that the areas of its place answer alike is answered alike by the registers
+module _ (local : Local) (A B : List ℕ) (wA : Whole A) (wB : Whole B) (call : Call) where
+  pub same-answer : act call (areaOf (placeOf call) A) .reply ≡ act call (areaOf (placeOf call) B) .reply → step call A .reply ≡ step call B .reply
+  same-answer alike =
+      let areas : areasIn B ≡ areasIn A = same-areas B A (wB ∙ sym wA) in
+      by-place local A wA call
+      (λ near. own-reply local A wA call near ∙ alike ∙ sym (own-reply local B wB call (rw areas near)))
+      (λ far. ap (λ (d : Done). d .reply) (refuses local A wA call far) ∙ sym (ap (λ (d : Done). d .reply) (refuses local B wB call (rw areas far))))
 
 -- ---- the two runs from registers that agree at a meter
 abbrev Agree : ℕ → List Call → Type 0

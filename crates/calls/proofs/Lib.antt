@@ -29,3 +29,5 @@ pub mod Chains
 pub mod Known
 pub mod KeptAll
 pub mod Refusals
+pub mod ReportKept
+pub mod KeptOut

@@ -22,7 +22,7 @@ module _ (day value : ℕ) (e : Entry) where
   unfolding hasRead
   is-read d v = ap₂ _&&_ (eq-eqb _ _ d) (eq-eqb _ _ v)
 
-same-is : (a b : Named) → isSameRead a b ≡ true → (a .day ≡ b .day) × (a .value ≡ b .value)
+pub same-is : (a b : Named) → isSameRead a b ≡ true → (a .day ≡ b .day) × (a .value ≡ b .value)
 unfolding isSameRead
 same-is a b h = let p = both (eqb (a .day) (b .day)) (eqb (a .value) (b .value)) h in (eqb-true _ _ (p .0), eqb-true _ _ (p .1))
 

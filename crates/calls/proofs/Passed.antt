@@ -131,7 +131,7 @@ module _ (s : Submission) (j : Journal) (p : Passed s j) where
   one-final = ap not (neither (isOpening (s .letter) && exists (standing (j .entries))) _ (p .once) .1)
 
 -- ---- it comes after the last standing read
-day-after : (s : Submission) (r : Entry) (ss : List Entry) → isBackDated s (slotAt (r ∷ ss) 0) ≡ false → isThere (onDay (s .day) (r ∷ ss)) ≡ false → ltb (r .day) (s .day) ≡ true
+pub day-after : (s : Submission) (r : Entry) (ss : List Entry) → isBackDated s (slotAt (r ∷ ss) 0) ≡ false → isThere (onDay (s .day) (r ∷ ss)) ≡ false → ltb (r .day) (s .day) ≡ true
 unfolding isBackDated slotAt onDay isThere
 day-after s r ss b d =
     by-test (eqb (r .day) (s .day))

@@ -110,7 +110,7 @@ module _ (call : Call) (register : List ℕ) where
   abbrev number : ℕ
   number = placeNumber place register
 
-  stops : eqb number accepted ≡ false → step call register ≡ done (refusalOf call number) register
+  pub stops : eqb number accepted ≡ false → step call register ≡ done (refusalOf call number) register
   unfolding step
   stops h = rw h
 
@@ -131,7 +131,7 @@ module _ (call : Call) (register : List ℕ) where
   unfolding step
   goes-on h = rw h
 
-  there : eqb number accepted ≡ true → Whole register × (place < areasIn register)
+  pub there : eqb number accepted ≡ true → Whole register × (place < areasIn register)
   unfolding placeNumber isMisfit isNoPlace
   there h =
       let u = unbroken accepted (rule misfit (isMisfit register) ∷ rule noMeter (isNoPlace place register) ∷ []) refl (eqb-true _ _ h) in

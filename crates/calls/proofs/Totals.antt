@@ -19,7 +19,7 @@ use Rattle.journal.specs.Journal.{Journal, standing, isFlagged, firstValue}
 use Rattle.register.specs.declared.head.Head.{Head}
 use Rattle.register.specs.Head.{noCarry}
 use Rattle.calls.specs.Fold.{carryAfter, headAfter}
-use Rattle.journal.specs.Total.{flaggedOf, flaggedIn, firstIn, totalOf}
+use Rattle.journal.specs.Total.{flaggedOf, standingIn, flaggedIn, firstIn, totalOf}
 use Rattle.calls.specs.Ledger.{Named, named, firstValueOf, lastLessFirst}
 
 -- a flag is 0 or 1
@@ -141,6 +141,10 @@ module _ (j : Journal) (a b c : Entry) (rest : List Entry) (st : standing (j .en
   pub flagged-stay : flaggedIn (headAfter j) three ≡ flaggedIn (j .head) ss
   unfolding flaggedIn headAfter carryAfter
   flagged-stay = rw st (omega (arith, flagged-parts))
+
+  pub standing-stay : standingIn (headAfter j) three ≡ standingIn (j .head) ss
+  unfolding standingIn headAfter carryAfter
+  standing-stay = rw st (omega arith)
 
   pub first-stays : (more : List Entry) → firstIn (headAfter j) more ≡ firstIn (j .head) ss
   unfolding firstIn headAfter carryAfter

@@ -6,4 +6,5 @@ pub mod Play
 pub mod DemandOne
 pub mod Ledger
 pub mod DemandThree
+pub mod FoldKeeps
 pub mod Examples

@@ -2,6 +2,7 @@
 ghost use Rattle.calls.specs.DemandOne.{DemandOne};
 ghost use Rattle.calls.specs.DemandThree.{DemandThree};
 ghost use Rattle.calls.specs.Examples.{ExamplesHold};
+ghost use Rattle.calls.specs.FoldKeeps.{FoldsKeepReports, WithdrawnStayOut};
 ghost use Rattle.calls.specs.Kept.{CallsKeepAreas};
 
 // No call damages an area: a register whose areas are all zero or sound stays so.
@@ -17,6 +18,16 @@ pub fn demand_one()
 // Demand 3, for every list of calls and every meter.
 pub fn demand_three()
     ensures { λ _. ⌜ DemandThree ⌝ }
+{}
+
+// A fold loses nothing of a report, on every register.
+pub fn folds_keep_reports()
+    ensures { λ _. ⌜ FoldsKeepReports ⌝ }
+{}
+
+// A read that was withdrawn is refused when it is sent again, after every list of calls.
+pub fn withdrawn_stay_out()
+    ensures { λ _. ⌜ WithdrawnStayOut ⌝ }
 {}
 
 // Examples of what the definitions of demand 3 and of a fold mean.
