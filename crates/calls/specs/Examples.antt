@@ -16,7 +16,7 @@ use Rattle.terms.specs.declared.entry.Slot.the-variants.{Read, Empty}
 use Rattle.rules.specs.declared.indicator.Indicated.the-variants.{Unclear}
 use Rattle.register.specs.declared.head.Carry.{Carry}
 use Rattle.register.specs.declared.head.Head.{Head}
-use Rattle.register.specs.Head.{noCarry, mostEntries, offsetAfter}
+use Rattle.register.specs.Head.{noCarry, headOf, mostEntries, offsetAfter}
 use Rattle.journal.specs.Journal.{Journal, standing, oldestOf}
 use Rattle.journal.specs.Sound.{carriesRight}
 use Rattle.journal.specs.Total.{reportOf}
@@ -195,6 +195,8 @@ pub record ExamplesHold : Type 0 where
   pub refused-fold-not : isPicked meter (foldAnswered noFold) ≡ false
   pub folded-ledger : ledgerOf meter (fourReads ++ (foldAnswered accepted ∷ [])) ≡ record { standing = fourNames; advances = pos 900; flags = pos 1; dials = 4; withdrawn = []; folded = 1 }
   pub unfolded-ledger : ledgerOf meter (fourReads ++ (foldAnswered noFold ∷ [])) ≡ ledgerOf meter fourReads
+  -- what was withdrawn is remembered, although its entry may be gone
+  pub fold-remembers : ledgerOf meter (year ++ (foldAnswered accepted ∷ [])) .withdrawn ≡ named 1540 100 ∷ []
   -- "that list less its first reads, as many as were folded"
   pub less-first : lessFirst 1 fourNames ≡ named 1540 100 ∷ named 1360 9600 ∷ named 1180 9400 ∷ []
   pub less-none : lessFirst 0 fourNames ≡ fourNames
@@ -220,7 +222,10 @@ pub record ExamplesHold : Type 0 where
   -- "Folded reads don't exist for any check, detection or volume"
   pub folded-not-detected : indicatedIn overTheTurn pair ≡ Unclear
   pub folded-not-recent : recent overTheTurn (alone (plate true (counts 9200 2 2))) ≡ record { last = Read (entry kindStanding 1360 9600); second = Empty; third = Empty }
-  -- the entries start "right after" it: 6 bytes of kind 1, and 9 of the carry
+  -- "a carry, kind 5, right after kind 1: first value (4 bytes), folded reads (2), flagged among them (2)", and not kind 5 later
+  pub carry-read : headOf (1 ∷ 4 ∷ 136 ∷ 19 ∷ 0 ∷ 0 ∷ 5 ∷ 40 ∷ 35 ∷ 0 ∷ 0 ∷ 47 ∷ 0 ∷ 1 ∷ 0 ∷ []) ≡ plate true (counts 9000 47 1)
+  pub no-carry-read : headOf (1 ∷ 4 ∷ 136 ∷ 19 ∷ 0 ∷ 0 ∷ 2 ∷ 5 ∷ 5 ∷ 5 ∷ 5 ∷ 5 ∷ 5 ∷ 5 ∷ 5 ∷ []) ≡ plate false noCarry
+  -- the entries start after it: 6 bytes of kind 1, and 9 of the carry
   pub after-the-carry : offsetAfter (plate true (counts 9200 2 2)) 0 ≡ 15
   pub after-the-meter : offsetAfter (plate false noCarry) 0 ≡ 6
   -- "Report .. count the carry": 500 − 9200 and three turns of four dials

@@ -14,7 +14,8 @@ use Rattle.arithmetic.specs.Powers.{tenTo}
 use Rattle.arithmetic.specs.Advance.{advanceOf}
 use Rattle.terms.specs.Letter.{isFinal}
 use Rattle.terms.specs.Entry.{isStanding, isWithdrawn, isHeld, those, slotAt, recentOf}
-use Rattle.register.specs.Head.{noCarry, mostEntries, headBytes, offsetAfter}
+use Rattle.register.specs.Bytes.{wordAt, longAt}
+use Rattle.register.specs.Head.{isCarryAt, carryAt, noCarry, headOf, mostEntries, headBytes, offsetAfter}
 use Rattle.journal.specs.Journal.{dayOf, isFlagged, firstValue, oldestOf}
 use Rattle.journal.specs.Sound.{any, hasRead, holds, isBefore, isCarry, carriesRight}
 use Rattle.journal.specs.Total.{flaggedOf, standingIn, flaggedIn, firstIn, totalOf, reportOf}
@@ -32,7 +33,7 @@ unfolding foldIn HasZeros
 fold-zeros area = by-test (eqb (firstBroken (foldChecks area)) accepted) (λ h. rw h (refl, refl)) (λ h. rw h (refl, refl))
 
 returns : tie.Need-returns
-unfolding isWithdrawn those any hasRead placeOf isWithdrawnRead numberOf names mayChange isPicked picked isSameRead takeOut emptyLedger flagOf entered isAccepted ledgerAfter ledgerOf hasAccepted isEnrolment hasEnrolment firstValueOf lastLessFirst isAmong areNoneOf year fourReads lessFirst keptFrom stays carryAfter headAfter foldedJournal isStanding isHeld slotAt dayOf isFlagged flaggedOf standingIn flaggedIn firstIn firstValue totalOf reportOf advanceOf tenTo isNoFold isFinal isOldestKept oldestOf noCarry mostEntries carriesRight isCarry isBefore holds isNotStanding isNotLast withdrawRules indicatedIn recentOf detected indicated isNotRollover isSmallStep isRollover isPlain scaledOf isNearTurn isLikeRate isSmallPart isSmallTurn isSmallAdvance headBytes offsetAfter
+unfolding isWithdrawn those any hasRead placeOf isWithdrawnRead numberOf names mayChange isPicked picked isSameRead takeOut emptyLedger flagOf entered isAccepted ledgerAfter ledgerOf hasAccepted isEnrolment hasEnrolment firstValueOf lastLessFirst isAmong areNoneOf year fourReads lessFirst keptFrom stays carryAfter headAfter foldedJournal isStanding isHeld slotAt dayOf isFlagged flaggedOf standingIn flaggedIn firstIn firstValue totalOf reportOf advanceOf tenTo isNoFold isFinal isOldestKept oldestOf noCarry mostEntries carriesRight isCarry isBefore holds isNotStanding isNotLast withdrawRules indicatedIn recentOf detected indicated isNotRollover isSmallStep isRollover isPlain scaledOf isNearTurn isLikeRate isSmallPart isSmallTurn isSmallAdvance headBytes offsetAfter wordAt longAt isCarryAt carryAt headOf
 returns c =
     record {
       report-picked = refl;
@@ -70,6 +71,7 @@ returns c =
       refused-fold-not = refl;
       folded-ledger = refl;
       unfolded-ledger = refl;
+      fold-remembers = refl;
       less-first = refl;
       less-none = refl;
       folds = refl;
@@ -86,6 +88,8 @@ returns c =
       fold-zeros = fold-zeros;
       folded-not-detected = refl;
       folded-not-recent = refl;
+      carry-read = refl;
+      no-carry-read = refl;
       after-the-carry = refl;
       after-the-meter = refl;
       reports = refl;
