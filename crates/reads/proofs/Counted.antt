@@ -2,12 +2,12 @@
 use mathlib.Core.Path.{_≡_, refl, ap, sym, _∙_}
 use mathlib.Core.Bool.{Bool, true, false, cond}
 use mathlib.Core.List.{List, [], _∷_}
-use Prim.Native.Nat.{ℕ, zero, suc, _-_, _≤_, _<_}
+use Prim.Native.Nat.{ℕ, zero, suc, _+_, _-_, _≤_, _<_}
 use native.Mathlib.Omega.{arith}
 use lib.ListN.{length, take, drop}
 use Rattle.terms.specs.declared.entry.Entry.{Entry}
 use Rattle.terms.specs.declared.entry.Slot.the-variants.{Read, Empty}
-use Rattle.terms.specs.Entry.{isHeld, slotAt}
+use Rattle.terms.specs.Entry.{isStanding, isHeld, those, slotAt}
 use Rattle.register.specs.declared.head.Head.{Head}
 use Rattle.register.specs.Entries.{entryStart, entryAt}
 use Rattle.register.specs.Head.{headOf, headBytes, mostEntries, bodyOf}
@@ -16,7 +16,7 @@ use Rattle.journal.specs.Journal.{Journal, journalOf, entriesTo, standing, kept
 use Rattle.journal.specs.Sound.{areInOrder, areSound, daysRise}
 use Rattle.judge.specs.Inner.Judged.{countsOf, summaryOf, Counted}
 use Rattle.journal.proofs.Bools.{both}
-use Rattle.journal.proofs.Entries.{length-entries, count-at-most}
+use Rattle.journal.proofs.Entries.{one-more, length-entries, count-at-most}
 use Rattle.journal.proofs.InOrder.{days-rise}
 use Rattle.judge.proofs.Newest.{none-there, newest-entry, kept-all}
 use Rattle.judge.proofs.Verdicts.{head-is, entries-are, journal-is, body-sound}
@@ -47,6 +47,16 @@ module _ (a : List ℕ) where
     cases false h =
         let all : k ≡ suc (length (entriesTo n a)) = rw h at is in
         absurd (some (all ∙ ap suc (length-entries n a)))
+
+-- ---- the newest standing entry stands
+module _ (a : List ℕ) where
+  newest-stands : (m : ℕ) → (length (standing (entriesTo m a)) ≡ 0 → ⊥) → isStanding (entryAt a (entryStart (newestAt (entriesTo m a)))) ≡ true
+  unfolding entriesTo those newestAt
+  newest-stands zero h = absurd (h refl)
+  newest-stands (suc k) h = cases (isStanding (entryAt a (entryStart k))) refl (newest-stands k) where
+    cases : (b : Bool) → isStanding (entryAt a (entryStart k)) ≡ b → ((length (standing (entriesTo k a)) ≡ 0 → ⊥) → isStanding (entryAt a (entryStart (newestAt (entriesTo k a)))) ≡ true) → isStanding (entryAt a (entryStart (newestAt (entriesTo (suc k) a)))) ≡ true
+    cases true e rest = rw (e, length-entries k a) e
+    cases false e rest = rw e (rest (rw e at h))
 
 -- ---- a sound area
 module _ (a : List ℕ) (t : Summary) (is : Counted a t) where
@@ -111,6 +121,14 @@ module _ (a : List ℕ) (t : Summary) (is : Counted a t) where
     -- the same of what is lent
     pub lent-last : {start : ℕ} → start ≡ headBytes (t .head) → standing (journalOf a .entries) ≡ entryAt (take (length a - start) (drop start a)) (entryStart (t .counts .newest)) ∷ standing (entriesTo (t .counts .newest) (take (length a - start) (drop start a)))
     lent-last starts = rw (lent-is a (t .head) starts) last-stands
+
+    -- those up to it are all that stand
+    pub lent-all : {start : ℕ} → start ≡ headBytes (t .head) → standing (entriesTo (t .counts .newest + 1) (take (length a - start) (drop start a))) ≡ standing (journalOf a .entries)
+    unfolding those
+    lent-all starts =
+        let at : t .counts .newest ≡ newestAt (entriesTo (t .entries) body) = newest-is ∙ ap newestAt in-body in
+        let stands = rw (← at) at (newest-stands body (t .entries) (λ z. some (stands-is ∙ ap (λ (es : List Entry). length (standing es)) in-body ∙ z))) in
+        rw (lent-is a (t .head) starts, one-more, stands) (sym last-stands)
 
     pub newest-in : slotIn a (t .head) (t .counts .newest) ≡ slotAt (standing (journalOf a .entries)) 0
     unfolding slotIn slotAt

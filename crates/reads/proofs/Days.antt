@@ -17,7 +17,7 @@ use Rattle.journal.proofs.Bools.{both, or-none}
 use Rattle.judge.proofs.Clashes.{none-stands}
 
 -- ---- the reads before one
-rise-before : (s : Entry) (ss : List Entry) → daysRise (s ∷ ss) ≡ true → daysRise ss ≡ true
+pub rise-before : (s : Entry) (ss : List Entry) → daysRise (s ∷ ss) ≡ true → daysRise ss ≡ true
 unfolding daysRise
 rise-before s [] r = refl
 rise-before s (t ∷ ss) r = both (isLater s t) (daysRise (t ∷ ss)) r .1
@@ -49,33 +49,7 @@ unfolding dayOf slotAt
 some-day [] h z = omega arith
 some-day (s ∷ ss) h z = omega arith
 
--- ---- with one entry more
-keep-on : (b : Bool) (day : ℕ) (e : Entry) (ss : List Entry) → onDay day (keepIf b e ss) ≡ slotIf (b && eqb (e .day) day) e (onDay day ss)
-unfolding onDay
-keep-on true day e ss = refl
-keep-on false day e ss = refl
-
-module _ (day : ℕ) (e : Entry) (es : List Entry) {found : Slot} (before : found ≡ onDay day (standing es)) where
-  pub on-it : isStanding e && eqb (e .day) day ≡ true → Read e ≡ onDay day (standing (e ∷ es))
-  unfolding those
-  on-it h = rw (keep-on (isStanding e) day e (standing es), h)
-
-  pub not-on-it : isStanding e && eqb (e .day) day ≡ false → found ≡ onDay day (standing (e ∷ es))
-  unfolding those
-  not-on-it h = rw (keep-on (isStanding e) day e (standing es), h) before
-
--- ---- by the last one
-pub last-on : (day : ℕ) (ss : List Entry) → dayOf (slotAt ss 0) ≡ day → slotAt ss 0 ≡ onDay day ss
-unfolding slotAt dayOf onDay
-last-on day [] h = refl
-last-on day (s ∷ ss) h = rw (eq-eqb (s .day) day h)
-
-pub before-last : (day : ℕ) (s : Entry) (ss : List Entry) → day < s .day → onDay day ss ≡ onDay day (s ∷ ss)
-unfolding onDay
-before-last day s ss l =
-    let other : s .day ≡ day → ⊥ = λ e. omega arith in
-    rw (ne-eqb (s .day) day other)
-
+-- ---- one read alone has none before it
 pub one-alone : (ss : List Entry) → length ss < 2 → slotAt ss 1 ≡ Empty
 unfolding slotAt
 one-alone [] l = refl

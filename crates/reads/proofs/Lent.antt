@@ -2,7 +2,7 @@
 use mathlib.Core.Path.{_≡_, refl, sym}
 use mathlib.Core.Bool.{Bool, true, false, not, _||_}
 use mathlib.Core.List.{List}
-use Prim.Native.Nat.{ℕ, _-_, _≤_}
+use Prim.Native.Nat.{ℕ, _-_, _≤_, _<_}
 use native.Mathlib.Omega.{arith}
 use borrow.Author.Tests.{eqb-true, eq-eqb, leb-true, le-leb}
 use lib.Dec.{eqb, leb}
@@ -43,6 +43,9 @@ module _ (a : List ℕ) (head : Head) (m : ℕ) {start : ℕ} (room : hasRoom a 
   few : m ≤ mostEntries head
   unfolding hasRoom
   few = leb-true m (mostEntries head) (both (eqb (length a) areaBytes) (leb m (mostEntries head)) room .1)
+
+  pub few-entries : m < 256
+  few-entries = omega (arith, few, head-room head)
 
   pub start-room : start ≤ length a
   start-room = omega (arith, starts, long, head-small head)

@@ -7,7 +7,7 @@ ghost use Rattle.register.specs.Entries.{entryStart, entryAt};
 use register::area::Layout;
 use terms::entry::Entry;
 
-fn word_at(bytes: &[u8], i: usize) -> u16
+pub(crate) fn word_at(bytes: &[u8], i: usize) -> u16
     requires { ⌜ i + 2 ≤ length (now bytes) ⌝ }
     ensures { λ r. ⌜ r ≡ wordAt (now (bytes .entry)) i ⌝ }
 {

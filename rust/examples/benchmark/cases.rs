@@ -3,7 +3,7 @@
 use crate::journals::{carried_register, damage, day, next_read_carried, register, Withdrawn};
 use crate::journals::{ADVANCE, CAPACITY, DIALS, PLACES};
 use crate::rows::{Made, Row};
-use necktureen::{Number, REGISTER_BYTES};
+use necktureen::{Number, Submission, REGISTER_BYTES};
 
 pub fn rows() -> Vec<Row> {
     let mut rows = reports();
@@ -13,6 +13,7 @@ pub fn rows() -> Vec<Row> {
     rows.extend([3, 25, 49].map(|entries| submit("refused last, capacity (21)", entries, 190, Number::Capacity)));
     rows.extend([3, 25, 49].map(|entries| submit("held, low (19)", entries, 19, Number::Low)));
     rows.extend([3, 25, 49].map(|entries| submit("held, high (20)", entries, 201, Number::High)));
+    rows.extend(of_past_months());
     rows.extend([1, 25, 50].map(|entries| withdraw("accepted", entries, Withdrawn::None)));
     rows.extend(WITHDRAWN.map(|(case, withdrawn)| withdraw(case, 50, withdrawn)));
     rows.push(enrol());
@@ -95,6 +96,20 @@ fn misfit(entries: usize) -> Row {
 fn place_64(entries: usize) -> Row {
     let row = submit("refused at once, place 64 (3)", entries, ADVANCE, Number::NoMeter);
     Row { places: vec![64; usize::from(PLACES)], ..row }
+}
+
+/// On 50 standing reads: one of them sent again, and a read of the day before the newest, on which none stands.
+fn of_past_months() -> Vec<Row> {
+    let repeats = [
+        ("refused, the newest read again (1)", 49),
+        ("refused, the middle read again (1)", 25),
+        ("refused, the oldest read again (1)", 0),
+    ];
+    let again = |position| Withdrawn::None.next_read(position, ADVANCE);
+    let mut rows: Vec<Row> = repeats.map(|(case, position)| row(Made::Submit(again(position)), case, 50, Number::Repeat)).into();
+    let eve = Submission { day: day(49) - 1, ..again(49) };
+    rows.push(row(Made::Submit(eve), "refused, a day before the newest (12)", 50, Number::BackDated));
+    rows
 }
 
 // ---- The other calls ----

@@ -1,5 +1,5 @@
-//! Document 01, with the leap years and the folds of document 02, written a second time, by hand and from the papers
-//! alone, for the comparison and the benchmark.
+//! Document 01, with the leap years, the folds and the same-day search of document 02, written a second time, by hand and
+//! from the papers alone, for the comparison and the benchmark.
 //!
 //! It shares with the library the types of a submission, of a date and of the answers and nothing else: register,
 //! rules, order of checks, calendar and day sheet are its own. Where the paper leaves room, a comment says how it is
@@ -10,11 +10,13 @@ pub mod calendar;
 mod fold;
 mod journal;
 mod register;
+mod search;
 mod sheet;
 mod sound;
 mod submission;
 mod withdrawal;
 
+pub use search::Search;
 pub use sheet::{play, run};
 
 use necktureen::{Answer, Number, Report, Submission};
@@ -111,6 +113,11 @@ pub fn journal(register: &[u8], place: u16) -> &[u8] {
         }
         Err(_) => &[],
     }
+}
+
+/// What the same-day search answers for each day from 0 to 65,535, where a sound journal is.
+pub fn search_each_day(register: &[u8], place: u16) -> Option<Vec<Search>> {
+    open(register, place).ok().map(|journal| search::search_each_day(&journal))
 }
 
 fn refused(number: Number) -> Answer {

@@ -1,0 +1,27 @@
+-- Every example computes to what it says.
+use mathlib.Core.Path.{refl}
+use Rattle.terms.specs.Entry.{those}
+use Rattle.journal.specs.Journal.{onDay}
+use Rattle.journal.specs.Sound.{any}
+use Rattle.reads.specs.Search.{endsAt, searchFrom, isLaterThan, isNotLater, daysCompared, searchAnswer}
+use Rattle.reads.proofs.claims.search_examples.Statement.{statement}
+use Rattle.reads.proofs.claims.search_examples.Tie as tie
+
+returns : tie.Need-returns
+unfolding those onDay any endsAt searchFrom isLaterThan isNotLater daysCompared searchAnswer
+returns c =
+    record {
+      after-newest = refl;
+      on-newest = refl;
+      before-newest = refl;
+      on-middle = refl;
+      before-middle = refl;
+      on-oldest = refl;
+      before-oldest = refl;
+      none-stands = refl;
+      ends-at-smaller = refl;
+      ends-at-equal = refl;
+    }
+
+pub search-examples-spec : {M : Type 1} → statement M
+search-examples-spec = tie.close (tie.spec returns)

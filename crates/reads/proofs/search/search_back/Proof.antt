@@ -1,0 +1,111 @@
+-- What is left of the search goes on where the entries passed have ended: withdrawn and held ones leave it as it is, and a later one adds to
+-- what was compared.
+use mathlib.Core.Path.{_≡_, refl, sym, _∙_}
+use mathlib.Core.Logic.{⊎-elim}
+use Prim.Native.Nat.{suc, _+_, _-_, _≤_}
+use native.Mathlib.Omega.{arith}
+use borrow.Author.Needs.{needs}
+use borrow.Author.Tests.{eq-eqb, ne-eqb}
+use Rattle.terms.specs.Entry.{isStanding, those}
+use Rattle.register.specs.Entries.{entryAt}
+use Rattle.journal.specs.Journal.{entriesTo, standing}
+use Rattle.reads.specs.Search.{searchFrom}
+use Rattle.reads.proofs.Searched.{passed-over, passed-later, ended}
+use Rattle.reads.proofs.search.search_back.Statement.{statement}
+use Rattle.reads.proofs.search.search_back.Tie as tie
+
+abbrev Inv-loop : tie.InvT-loop
+Inv-loop body m day later₀ k₀ later k = (later + k ≤ m) × (searchFrom day later (standing (entriesTo k body)) ≡ searchFrom day 0 (standing (entriesTo m body)))
+
+abbrev μ-loop : tie.MeasureT-loop
+μ-loop body m day later₀ k₀ later k = k
+
+loop-holds : tie.Need-loop-holds Inv-loop μ-loop
+loop-holds c = (omega arith, refl)
+
+sub-newest : tie.Need-sub-newest Inv-loop μ-loop
+sub-newest c = omega arith
+
+cast-at : tie.Need-cast-at Inv-loop μ-loop
+cast-at c = omega arith
+
+mul-at : tie.Need-mul-at Inv-loop μ-loop
+mul-at c = omega arith
+
+shared-slice-read-if1 : tie.Need-shared-slice-read-if1 Inv-loop μ-loop
+shared-slice-read-if1 c = omega arith
+
+add-word-at : tie.Need-add-word-at Inv-loop μ-loop
+add-word-at c = omega arith
+
+word-at-requires : tie.Need-word-at-requires Inv-loop μ-loop
+word-at-requires c κs = search needs
+
+entry-at-requires : tie.Need-entry-at-requires Inv-loop μ-loop
+entry-at-requires c κs = search needs
+
+end-at-requires : tie.Need-end-at-requires Inv-loop μ-loop
+end-at-requires c κs = search needs
+
+-- the entry that is looked at
+one : (c : tie.In-loop Inv-loop μ-loop) → c .before .loop .k ≡ suc (c .before .loop .k - 1)
+one c = omega (arith, c .loop-test .taken)
+
+returns : tie.Need-returns Inv-loop μ-loop
+unfolding isStanding entryAt
+returns c =
+    let early = c .before .before in
+    let word = early .before in
+    let stands = word .before in
+    let now = stands .before .before in
+    c .end-at .ensures
+    ∙ rw (c .before .entry-at .ensures)
+    (sym (ended _ _ _ (one now) (eq-eqb _ _ (stands .if1 .taken)) (word .word-at .ensures) (early .if2 .taken)))
+    ∙ now .before .loop .inv .1
+
+add-later : tie.Need-add-later Inv-loop μ-loop
+add-later c = omega arith
+
+sub-k : tie.Need-sub-k Inv-loop μ-loop
+sub-k c = omega arith
+
+loop-less : tie.Need-loop-less Inv-loop μ-loop
+loop-less c = omega arith
+
+loop-again : tie.Need-loop-again Inv-loop μ-loop
+unfolding isStanding entryAt
+loop-again c =
+    let now = c .before .before in
+    let held = now .before .loop .inv in
+    ⊎-elim
+    (λ w. (omega arith, rw (w .3) (sym (passed-later _ _ _ (one now) (eq-eqb _ _ (w .0 .taken)) (w .1 .ensures) (w .2 .left)) ∙ held .1)))
+    (λ w. (omega arith, rw (w .1) (sym (passed-over _ _ _ (one now) (ne-eqb _ _ (w .0 .left))) ∙ held .1)))
+    (c .if1 .came)
+
+returns-2 : tie.Need-returns-2 Inv-loop μ-loop
+unfolding entriesTo those searchFrom
+returns-2 c =
+    let none : c .before .loop .k ≡ 0 = omega (arith, c .loop-test .left) in
+    rw none at (c .before .loop .inv .1)
+
+pub search-back-spec : {M : Type 1} → statement M
+search-back-spec =
+    tie.close
+    (tie.spec
+    Inv-loop
+    μ-loop
+    loop-holds
+    sub-newest
+    cast-at
+    mul-at
+    shared-slice-read-if1
+    add-word-at
+    word-at-requires
+    entry-at-requires
+    end-at-requires
+    returns
+    add-later
+    sub-k
+    loop-less
+    loop-again
+    returns-2)

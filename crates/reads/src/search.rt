@@ -1,0 +1,88 @@
+// The search for a standing read of a day, from the newest entry back.
+ghost use mathlib.Core.Path.{_≡_};
+ghost use Prim.Native.Nat.{_≤_, _<_};
+ghost use lib.ListN.{length};
+ghost use Rattle.register.specs.Entries.{entryStart};
+ghost use Rattle.journal.specs.Journal.{journalOf, entriesTo, standing};
+ghost use Rattle.judge.specs.Inner.Judged.{Counted};
+ghost use Rattle.reads.specs.Search.{endsAt, searchFrom, searchAnswer};
+use crate::read::entry_at;
+use crate::read::word_at;
+use crate::room::has_entry;
+use judge::area::Summary;
+use register::area::Layout;
+use register::head::head_bytes;
+use terms::entry::Entry;
+use terms::entry::Kind;
+use terms::entry::Slot;
+
+pub struct Search {
+    pub found: Slot,
+    // How many standing days were compared with the one that is asked for.
+    pub compared: u8,
+}
+
+// The search ends at a standing read that is not later.
+fn end_at(e: Entry, day: u16, later: u8) -> Search
+    requires { ⌜ later < 255 ⌝ }
+    ensures { λ r. ⌜ r ≡ endsAt day later e ⌝ }
+{
+    let compared = later + 1;
+    if e.day == day {
+        return Search {
+            found: Slot::Read(e),
+            compared,
+        };
+    }
+    Search {
+        found: Slot::Empty,
+        compared,
+    }
+}
+
+// The search over the first m entries. Standing days rise, so nothing before a day that is not later can be of that day; what is withdrawn
+// or held is passed over and not compared.
+fn search_back(body: &[u8], m: u8, day: u16) -> Search
+    requires { ⌜ entryStart m ≤ length (now body) ⌝ }
+    ensures { λ r. ⌜ r ≡ searchFrom day 0 (standing (entriesTo m (now (body .entry)))) ⌝ }
+{
+    let mut later: u8 = 0;
+    let mut k = m;
+    while 0 < k {
+        let newest = k - 1;
+        let at = Layout::ENTRY_BYTES * (newest as usize);
+        if body[at] == Kind::STANDING {
+            if word_at(body, at + 1) <= day {
+                return end_at(entry_at(body, newest), day, later);
+            }
+            later += 1;
+        }
+        k -= 1;
+    }
+    Search {
+        found: Slot::Empty,
+        compared: later,
+    }
+}
+
+// The day of the newest standing read is known, so a later day needs no entry.
+pub fn search_day(area: &[u8], t: Summary, day: u16) -> Search
+    ensures { λ r. ⌜ (Counted (now (area .entry)) t → r ≡ searchAnswer day (standing (journalOf (now (area .entry)) .entries))) ⌝ }
+{
+    let head = t.head;
+    let counts = t.counts;
+    if t.day < day {
+        return Search {
+            found: Slot::Empty,
+            compared: (0 < counts.standing) as u8,
+        };
+    }
+    if (counts.standing == 0) | !has_entry(area, head, counts.newest) {
+        return Search {
+            found: Slot::Empty,
+            compared: 0,
+        };
+    }
+    let start = head_bytes(head);
+    search_back(&area[start..], counts.newest + 1, day)
+}
