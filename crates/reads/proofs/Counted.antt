@@ -4,6 +4,9 @@ use mathlib.Core.Bool.{Bool, true, false, cond}
 use mathlib.Core.List.{List, [], _∷_}
 use Prim.Native.Nat.{ℕ, zero, suc, _+_, _-_, _≤_, _<_}
 use native.Mathlib.Omega.{arith}
+use borrow.Author.Tests.{ltb-true, ltb-false, eqb-true, eqb-false}
+use mir.Val.{boolByte}
+use lib.Dec.{eqb, ltb}
 use lib.ListN.{length, take, drop}
 use Rattle.terms.specs.declared.entry.Entry.{Entry}
 use Rattle.terms.specs.declared.entry.Slot.the-variants.{Read, Empty}
@@ -15,7 +18,7 @@ use Rattle.judge.specs.declared.area.Summary.{Summary}
 use Rattle.journal.specs.Journal.{Journal, journalOf, entriesTo, standing, kept, heldOf, isThere, newestAt, dayOf}
 use Rattle.journal.specs.Sound.{areInOrder, areSound, daysRise}
 use Rattle.judge.specs.Inner.Judged.{countsOf, summaryOf, Counted}
-use Rattle.journal.proofs.Bools.{both}
+use Rattle.journal.proofs.Bools.{false-is, both}
 use Rattle.journal.proofs.Entries.{one-more, length-entries, count-at-most}
 use Rattle.journal.proofs.InOrder.{days-rise}
 use Rattle.judge.proofs.Newest.{none-there, newest-entry, kept-all}
@@ -48,7 +51,7 @@ module _ (a : List ℕ) where
         let all : k ≡ suc (length (entriesTo n a)) = rw h at is in
         absurd (some (all ∙ ap suc (length-entries n a)))
 
--- ---- the newest standing entry stands
+-- ---- the last standing one of some entries stands, and where none does no entry comes before it
 module _ (a : List ℕ) where
   newest-stands : (m : ℕ) → (length (standing (entriesTo m a)) ≡ 0 → ⊥) → isStanding (entryAt a (entryStart (newestAt (entriesTo m a)))) ≡ true
   unfolding entriesTo those newestAt
@@ -57,6 +60,14 @@ module _ (a : List ℕ) where
     cases : (b : Bool) → isStanding (entryAt a (entryStart k)) ≡ b → ((length (standing (entriesTo k a)) ≡ 0 → ⊥) → isStanding (entryAt a (entryStart (newestAt (entriesTo k a)))) ≡ true) → isStanding (entryAt a (entryStart (newestAt (entriesTo (suc k) a)))) ≡ true
     cases true e rest = rw (e, length-entries k a) e
     cases false e rest = rw e (rest (rw e at h))
+
+none-before : (es : List Entry) → length (standing es) ≡ 0 → newestAt es ≡ 0
+unfolding those newestAt
+none-before [] h = refl
+none-before (e ∷ es) h = cases (isStanding e) refl (none-before es) where
+  cases : (b : Bool) → isStanding e ≡ b → (length (standing es) ≡ 0 → newestAt es ≡ 0) → newestAt (e ∷ es) ≡ 0
+  cases true s rest = absurd (omega (arith, rw s at h))
+  cases false s rest = rw s (rest (rw s at h))
 
 -- ---- a sound area
 module _ (a : List ℕ) (t : Summary) (is : Counted a t) where
@@ -122,17 +133,35 @@ module _ (a : List ℕ) (t : Summary) (is : Counted a t) where
     pub lent-last : {start : ℕ} → start ≡ headBytes (t .head) → standing (journalOf a .entries) ≡ entryAt (take (length a - start) (drop start a)) (entryStart (t .counts .newest)) ∷ standing (entriesTo (t .counts .newest) (take (length a - start) (drop start a)))
     lent-last starts = rw (lent-is a (t .head) starts) last-stands
 
-    -- those up to it are all that stand
-    pub lent-all : {start : ℕ} → start ≡ headBytes (t .head) → standing (entriesTo (t .counts .newest + 1) (take (length a - start) (drop start a))) ≡ standing (journalOf a .entries)
-    unfolding those
-    lent-all starts =
-        let at : t .counts .newest ≡ newestAt (entriesTo (t .entries) body) = newest-is ∙ ap newestAt in-body in
-        let stands = rw (← at) at (newest-stands body (t .entries) (λ z. some (stands-is ∙ ap (λ (es : List Entry). length (standing es)) in-body ∙ z))) in
-        rw (lent-is a (t .head) starts, one-more, stands) (sym last-stands)
-
     pub newest-in : slotIn a (t .head) (t .counts .newest) ≡ slotAt (standing (journalOf a .entries)) 0
     unfolding slotIn slotAt
     newest-in = rw (newest-room, last-stands)
+
+  -- ---- all that stand, by the entries up to the last one
+  pub no-room : hasRoom a (t .head) (suc (t .counts .newest)) ≡ false → standing (journalOf a .entries) ≡ []
+  no-room h = cases (eqb (t .counts .standing) 0) refl where
+    cases : (b : Bool) → eqb (t .counts .standing) 0 ≡ b → standing (journalOf a .entries) ≡ []
+    cases true z = none-stand (eqb-true _ _ z)
+    cases false z = false-is (sym h ∙ newest-room (eqb-false _ _ z))
+
+  abbrev newest-of-all : t .counts .newest ≡ newestAt (entriesTo (t .entries) body)
+  newest-of-all = newest-is ∙ ap newestAt in-body
+
+  abbrev stand-of-all : t .counts .standing ≡ length (standing (entriesTo (t .entries) body))
+  stand-of-all = stands-is ∙ ap (λ (es : List Entry). length (standing es)) in-body
+
+  to-newest : (b : Bool) → ltb 0 (t .counts .standing) ≡ b → standing (entriesTo (t .counts .newest + boolByte b) body) ≡ standing (journalOf a .entries)
+  unfolding entriesTo those
+  to-newest true h =
+      let some : t .counts .standing ≡ 0 → ⊥ = λ z. omega (arith, ltb-true 0 (t .counts .standing) h) in
+      let stands = rw (← newest-of-all) at (newest-stands body (t .entries) (λ z. some (stand-of-all ∙ z))) in
+      rw (one-more, stands) (sym (last-stands some))
+  to-newest false h =
+      let none : t .counts .standing ≡ 0 = omega (arith, ltb-false 0 (t .counts .standing) h) in
+      rw (newest-of-all, none-before (entriesTo (t .entries) body) (sym stand-of-all ∙ none), none-stand none)
+
+  pub lent-all : {start : ℕ} → start ≡ headBytes (t .head) → standing (entriesTo (t .counts .newest + boolByte (ltb 0 (t .counts .standing))) (take (length a - start) (drop start a))) ≡ standing (journalOf a .entries)
+  lent-all starts = rw (lent-is a (t .head) starts) (to-newest (ltb 0 (t .counts .standing)) refl)
 
   -- ---- the held read
   keeps : t .counts .kept ≡ cond (isThere (heldOf (entriesTo (t .entries) body))) (length (entriesTo (t .entries) body) - 1) (length (entriesTo (t .entries) body))

@@ -19,7 +19,7 @@ use Rattle.journal.specs.Sound.{any, daysRise, isLater}
 use Rattle.journal.proofs.Bools.{both}
 use Rattle.journal.proofs.Entries.{last-entry}
 use Rattle.reads.specs.declared.search.Search.{Search}
-use Rattle.reads.specs.Search.{endsAt, searchFrom, isLaterThan, isNotLater, daysCompared, searchAnswer}
+use Rattle.reads.specs.Search.{notFound, endsAt, searchFrom, isLaterThan, isNotLater, daysCompared, searchAnswer}
 use Rattle.reads.proofs.Days.{rise-before, none-on}
 
 -- no day before one that is not later is later
@@ -62,7 +62,7 @@ module _ (day : ℕ) where
   answer compared ss = record { found = onDay day ss; compared = compared + daysCompared day ss }
 
   search-after : (compared : ℕ) (ss : List Entry) → daysRise ss ≡ true → searchFrom day compared ss ≡ answer compared ss
-  unfolding searchFrom endsAt onDay daysCompared those any
+  unfolding searchFrom notFound endsAt onDay daysCompared those any
   search-after compared [] r = ap (λ (k : ℕ). record { found = Empty; compared = k }) (omega arith)
   search-after compared (s ∷ ss) r = cases (leb (s .day) day) refl (search-after (compared + 1) ss (rise-before s ss r)) where
     cases : (b : Bool) → leb (s .day) day ≡ b → searchFrom day (compared + 1) ss ≡ answer (compared + 1) ss → cond (leb (s .day) day) (endsAt day compared s) (searchFrom day (compared + 1) ss) ≡ answer compared (s ∷ ss)
@@ -78,12 +78,12 @@ module _ (day : ℕ) where
   search-right ss r = search-after 0 ss r ∙ ap (λ (k : ℕ). record { found = onDay day ss; compared = k }) (omega arith)
 
   -- where none stands nothing is compared, and where the newest is earlier, that one alone
-  pub none-standing : (ss : List Entry) → ss ≡ [] → record { found = Empty; compared = 0 } ≡ searchAnswer day ss
-  unfolding searchAnswer onDay daysCompared those any
+  pub none-standing : (ss : List Entry) → ss ≡ [] → notFound 0 ≡ searchAnswer day ss
+  unfolding notFound searchAnswer onDay daysCompared those any
   none-standing ss none = rw none
 
-  pub newest-earlier : (ss : List Entry) {n : ℕ} → n ≡ length ss → daysRise ss ≡ true → dayOf (slotAt ss 0) < day → record { found = Empty; compared = boolByte (ltb 0 n) } ≡ searchAnswer day ss
-  unfolding searchFrom endsAt dayOf slotAt
+  pub newest-earlier : (ss : List Entry) {n : ℕ} → n ≡ length ss → daysRise ss ≡ true → dayOf (slotAt ss 0) < day → notFound (boolByte (ltb 0 n)) ≡ searchAnswer day ss
+  unfolding searchFrom notFound endsAt dayOf slotAt
   newest-earlier [] is r l = rw is (none-standing [] refl)
   newest-earlier (s ∷ ss) {n} is r l =
       let other : s .day ≡ day → ⊥ = λ e. omega arith in

@@ -12,14 +12,17 @@ use Rattle.journal.specs.Journal.{slotIf, onDay}
 use Rattle.journal.specs.Sound.{any, daysRise}
 use Rattle.reads.specs.declared.search.Search.{Search}
 
--- ---- the way it goes
+-- ---- the way it goes, with how many days were compared before
+unfoldable pub notFound : ℕ → Search
+notFound compared = record { found = Empty; compared = compared }
+
 -- a standing read that is not later ends it: the read of that day is found, and of a smaller day none
 unfoldable pub endsAt : ℕ → ℕ → Entry → Search
 endsAt day compared s = record { found = slotIf (eqb (s .day) day) s Empty; compared = compared + 1 }
 
--- "goes from the newest back and ends at that day or as soon as a standing day is smaller"; so many days were compared before
+-- "goes from the newest back and ends at that day or as soon as a standing day is smaller"
 unfoldable pub searchFrom : ℕ → ℕ → List Entry → Search
-searchFrom day compared [] = record { found = Empty; compared = compared }
+searchFrom day compared [] = notFound compared
 searchFrom day compared (s ∷ ss) =
     cond (leb (s .day) day) (endsAt day compared s) (searchFrom day (compared + 1) ss)
 

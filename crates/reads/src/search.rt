@@ -5,7 +5,7 @@ ghost use lib.ListN.{length};
 ghost use Rattle.register.specs.Entries.{entryStart};
 ghost use Rattle.journal.specs.Journal.{journalOf, entriesTo, standing};
 ghost use Rattle.judge.specs.Inner.Judged.{Counted};
-ghost use Rattle.reads.specs.Search.{endsAt, searchFrom, searchAnswer};
+ghost use Rattle.reads.specs.Search.{notFound, endsAt, searchFrom, searchAnswer};
 use crate::read::entry_at;
 use crate::read::word_at;
 use crate::room::has_entry;
@@ -22,6 +22,16 @@ pub struct Search {
     pub compared: u8,
 }
 
+// None of that day stands.
+fn not_found(compared: u8) -> Search
+    ensures { λ r. ⌜ r ≡ notFound compared ⌝ }
+{
+    Search {
+        found: Slot::Empty,
+        compared,
+    }
+}
+
 // The search ends at a standing read that is not later.
 fn end_at(e: Entry, day: u16, later: u8) -> Search
     requires { ⌜ later < 255 ⌝ }
@@ -34,14 +44,11 @@ fn end_at(e: Entry, day: u16, later: u8) -> Search
             compared,
         };
     }
-    Search {
-        found: Slot::Empty,
-        compared,
-    }
+    not_found(compared)
 }
 
-// The search over the first m entries. Standing days rise, so nothing before a day that is not later can be of that day; what is withdrawn
-// or held is passed over and not compared.
+// The search over the first m entries. Standing days rise, so nothing before a day that is not later can be of the day that is asked for.
+// What is withdrawn or held is passed over and not compared.
 fn search_back(body: &[u8], m: u8, day: u16) -> Search
     requires { ⌜ entryStart m ≤ length (now body) ⌝ }
     ensures { λ r. ⌜ r ≡ searchFrom day 0 (standing (entriesTo m (now (body .entry)))) ⌝ }
@@ -59,30 +66,25 @@ fn search_back(body: &[u8], m: u8, day: u16) -> Search
         }
         k -= 1;
     }
-    Search {
-        found: Slot::Empty,
-        compared: later,
-    }
+    not_found(later)
 }
 
-// The day of the newest standing read is known, so a later day needs no entry.
+// The newest standing read is where the search begins. Its day is known, so a later day than that needs no entry.
 pub fn search_day(area: &[u8], t: Summary, day: u16) -> Search
     ensures { λ r. ⌜ (Counted (now (area .entry)) t → r ≡ searchAnswer day (standing (journalOf (now (area .entry)) .entries))) ⌝ }
 {
     let head = t.head;
     let counts = t.counts;
     if t.day < day {
-        return Search {
-            found: Slot::Empty,
-            compared: (0 < counts.standing) as u8,
-        };
+        return not_found((0 < counts.standing) as u8);
     }
-    if (counts.standing == 0) | !has_entry(area, head, counts.newest) {
-        return Search {
-            found: Slot::Empty,
-            compared: 0,
-        };
+    if !has_entry(area, head, counts.newest) {
+        return not_found(0);
     }
     let start = head_bytes(head);
-    search_back(&area[start..], counts.newest + 1, day)
+    search_back(
+        &area[start..],
+        counts.newest + ((0 < counts.standing) as u8),
+        day,
+    )
 }

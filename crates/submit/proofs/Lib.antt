@@ -1,3 +1,4 @@
 pub mod Stands
 pub mod Stages
 pub mod Taken
+pub mod Past

@@ -1,13 +1,14 @@
 // The submitted read after those of the journal: 12, 13, 9 and 14 to 16.
 ghost use mathlib.Core.Path.{_≡_};
+ghost use mathlib.Core.Bool.{false};
 ghost use mathlib.Core.List.{List};
 ghost use Rattle.terms.specs.declared.entry.Entry.{Entry};
 ghost use Rattle.terms.specs.Entry.{slotAt};
 ghost use Rattle.terms.specs.Rule.{firstBroken};
-ghost use Rattle.journal.specs.Journal.{Journal, journalOf, standing, kept, heldOf};
+ghost use Rattle.journal.specs.Journal.{Journal, journalOf, standing, kept, heldOf, isThere, dayOf, onDay};
 ghost use Rattle.journal.specs.Sound.{any, isFinalRead};
 ghost use Rattle.judge.specs.Inner.Judged.{Counted};
-ghost use Rattle.calls.specs.Checks.{isBackDated, isUnopened, isATLater, isOpeningIndicated, isHeldEqual, isUnheldReread, isFull, orderRules};
+ghost use Rattle.calls.specs.Checks.{isBadDate, isBackDated, isUnopened, isATLater, isOpeningIndicated, isHeldEqual, isUnheldReread, isFull, orderRules};
 use journal::slot::is_there;
 use judge::area::Summary;
 use reads::held::held;
@@ -20,14 +21,12 @@ use terms::number::Number;
 use terms::submission::Indicator;
 use terms::submission::Submission;
 
-// 12: earlier than the last standing read.
-fn is_back_dated(s: Submission, last: Slot) -> bool
-    ensures { λ r. ⌜ r ≡ isBackDated s last ⌝ }
+// 12: earlier than the last standing read. The submitted day is not 0, and no read of that day stands: a day that is not after the last one
+// is before it. Where none stands the last day is 0.
+pub(crate) fn is_back_dated(s: Submission, t: Summary) -> bool
+    ensures { λ r. ⌜ ((ss : List Entry) → t .day ≡ dayOf (slotAt ss 0) → isBadDate s ≡ false → isThere (onDay (s .day) ss) ≡ false → r ≡ isBackDated s (slotAt ss 0)) ⌝ }
 {
-    match last {
-        Slot::Read(r0) => s.day < r0.day,
-        Slot::Empty => false,
-    }
+    s.day <= t.day
 }
 
 // 13: none stands, and the type is not I or O. A read stands if there is a last one.
@@ -82,15 +81,12 @@ fn is_full(head: Head, count: u8) -> bool
     count == most_entries(head)
 }
 
-// The number of the first rule broken, or 0.
+// The number of the first rule broken, or 0, for a read that is not back-dated.
 pub(crate) fn order_number(area: &[u8], s: Submission, t: Summary, last: Slot) -> u8
     requires { ⌜ Counted (now area) t ⌝ }
-    ensures { λ r. ⌜ (last ≡ slotAt (standing (journalOf (now (area .entry)) .entries)) 0 → r ≡ firstBroken (orderRules s (journalOf (now (area .entry))))) ⌝ }
+    ensures { λ r. ⌜ (last ≡ slotAt (standing (journalOf (now (area .entry)) .entries)) 0 → isBackDated s last ≡ false → r ≡ firstBroken (orderRules s (journalOf (now (area .entry))))) ⌝ }
 {
     let counts = t.counts;
-    if is_back_dated(s, last) {
-        return Number::BACK_DATED;
-    }
     if is_unopened(s, last) {
         return Number::DF;
     }

@@ -3,12 +3,12 @@ use mathlib.Core.Path.{refl}
 use Rattle.terms.specs.Entry.{those}
 use Rattle.journal.specs.Journal.{onDay}
 use Rattle.journal.specs.Sound.{any}
-use Rattle.reads.specs.Search.{endsAt, searchFrom, isLaterThan, isNotLater, daysCompared, searchAnswer}
+use Rattle.reads.specs.Search.{notFound, endsAt, searchFrom, isLaterThan, isNotLater, daysCompared, searchAnswer}
 use Rattle.reads.proofs.claims.search_examples.Statement.{statement}
 use Rattle.reads.proofs.claims.search_examples.Tie as tie
 
 returns : tie.Need-returns
-unfolding those onDay any endsAt searchFrom isLaterThan isNotLater daysCompared searchAnswer
+unfolding those onDay any notFound endsAt searchFrom isLaterThan isNotLater daysCompared searchAnswer
 returns c =
     record {
       after-newest = refl;

@@ -1,6 +1,8 @@
-use borrow.Author.Tests.{eq-eqb, ne-eqb}
+use mathlib.Core.Path.{_∙_}
 use native.Mathlib.Omega.{arith}
-use Rattle.reads.specs.Search.{endsAt}
+use borrow.Author.Needs.{needs}
+use borrow.Author.Tests.{eq-eqb, ne-eqb}
+use Rattle.reads.specs.Search.{notFound, endsAt}
 use Rattle.reads.proofs.search.end_at.Statement.{statement}
 use Rattle.reads.proofs.search.end_at.Tie as tie
 
@@ -11,9 +13,12 @@ returns : tie.Need-returns
 unfolding endsAt
 returns c = rw (eq-eqb _ _ (c .if1 .taken))
 
+not-found-requires : tie.Need-not-found-requires
+not-found-requires c κs = search needs
+
 returns-2 : tie.Need-returns-2
-unfolding endsAt
-returns-2 c = rw (ne-eqb _ _ (c .if1 .left))
+unfolding notFound endsAt
+returns-2 c = c .not-found .ensures ∙ rw (ne-eqb _ _ (c .before .if1 .left))
 
 pub end-at-spec : {M : Type 1} → statement M
-end-at-spec = tie.close (tie.spec add-compared returns returns-2)
+end-at-spec = tie.close (tie.spec add-compared returns not-found-requires returns-2)

@@ -82,11 +82,15 @@ loop-again c =
     (λ w. (omega arith, rw (w .1) (sym (passed-over _ _ _ (one now) (ne-eqb _ _ (w .0 .left))) ∙ held .1)))
     (c .if1 .came)
 
+not-found-requires : tie.Need-not-found-requires Inv-loop μ-loop
+not-found-requires c κs = search needs
+
 returns-2 : tie.Need-returns-2 Inv-loop μ-loop
 unfolding entriesTo those searchFrom
 returns-2 c =
-    let none : c .before .loop .k ≡ 0 = omega (arith, c .loop-test .left) in
-    rw none at (c .before .loop .inv .1)
+    let loop = c .before .before in
+    let none : loop .loop .k ≡ 0 = omega (arith, c .before .loop-test .left) in
+    c .not-found .ensures ∙ rw none at (loop .loop .inv .1)
 
 pub search-back-spec : {M : Type 1} → statement M
 search-back-spec =
@@ -108,4 +112,5 @@ search-back-spec =
     sub-k
     loop-less
     loop-again
+    not-found-requires
     returns-2)
