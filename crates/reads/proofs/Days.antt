@@ -4,14 +4,14 @@ use mathlib.Core.Bool.{Bool, true, false, _&&_, _||_}
 use mathlib.Core.List.{List, [], _∷_}
 use Prim.Native.Nat.{ℕ, _<_}
 use native.Mathlib.Omega.{arith}
-use borrow.Author.Tests.{ltb-true, eqb-true, eq-eqb, ne-eqb}
+use borrow.Author.Tests.{ltb-true, eqb-true, ne-eqb}
 use lib.Dec.{eqb}
 use lib.ListN.{length}
 use Rattle.terms.specs.declared.entry.Entry.{Entry}
 use Rattle.terms.specs.declared.entry.Slot.{Slot}
 use Rattle.terms.specs.declared.entry.Slot.the-variants.{Read, Empty}
-use Rattle.terms.specs.Entry.{isStanding, keepIf, those, slotAt}
-use Rattle.journal.specs.Journal.{standing, slotIf, onDay, dayOf}
+use Rattle.terms.specs.Entry.{slotAt}
+use Rattle.journal.specs.Journal.{slotIf, onDay, dayOf}
 use Rattle.journal.specs.Sound.{any, hasRead, daysRise, isLater}
 use Rattle.journal.proofs.Bools.{both, or-none}
 use Rattle.judge.proofs.Clashes.{none-stands}
@@ -22,7 +22,7 @@ unfolding daysRise
 rise-before s [] r = refl
 rise-before s (t ∷ ss) r = both (isLater s t) (daysRise (t ∷ ss)) r .1
 
--- ---- a day after the last one, and the day of the last one
+-- ---- a day after the last one
 pub none-on : (day : ℕ) (ss : List Entry) → daysRise ss ≡ true → dayOf (slotAt ss 0) < day → onDay day ss ≡ Empty
 unfolding onDay daysRise dayOf slotAt
 none-on day [] r l = refl
@@ -43,11 +43,6 @@ none-before day value s (t ∷ ss) r e =
     let c = both (isLater s t) (daysRise (t ∷ ss)) r in
     let falls : t .day < s .day = ltb-true _ _ (c .0) in
     none-stands day value (t ∷ ss) (c .1) (omega arith)
-
-pub some-day : (ss : List Entry) → 0 < dayOf (slotAt ss 0) → length ss ≡ 0 → ⊥
-unfolding dayOf slotAt
-some-day [] h z = omega arith
-some-day (s ∷ ss) h z = omega arith
 
 -- ---- one read alone has none before it
 pub one-alone : (ss : List Entry) → length ss < 2 → slotAt ss 1 ≡ Empty

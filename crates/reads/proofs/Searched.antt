@@ -1,6 +1,6 @@
 -- Standing days rise, so the search that ends early finds what is there, and compares as many days as are said.
 use mathlib.Core.Path.{_≡_, refl, ap, sym, _∙_}
-use mathlib.Core.Bool.{Bool, true, false, _||_, cond}
+use mathlib.Core.Bool.{Bool, true, false, cond}
 use mathlib.Core.List.{List, [], _∷_}
 use Prim.Native.Nat.{ℕ, suc, _+_, _≤_, _<_}
 use native.Mathlib.Omega.{arith}
@@ -9,8 +9,7 @@ use mir.Val.{boolByte}
 use lib.Dec.{eqb, leb, ltb}
 use lib.ListN.{length}
 use Rattle.terms.specs.declared.entry.Entry.{Entry}
-use Rattle.terms.specs.declared.entry.Slot.{Slot}
-use Rattle.terms.specs.declared.entry.Slot.the-variants.{Read, Empty}
+use Rattle.terms.specs.declared.entry.Slot.the-variants.{Empty}
 use Rattle.terms.specs.Entry.{isStanding, those, slotAt}
 use Rattle.register.specs.Bytes.{wordAt}
 use Rattle.register.specs.Entries.{entryStart, entryAt}

@@ -4,14 +4,14 @@ use mathlib.Core.Bool.{Bool, true, false}
 use mathlib.Core.List.{List, [], _∷_}
 use Prim.Native.Nat.{ℕ}
 use native.Mathlib.Omega.{arith}
-use borrow.Author.Tests.{eqb-true, eqb-false, lt-ltb, le-ltb, lt-leb, le-leb, leb-true, leb-false}
+use borrow.Author.Tests.{eqb-false, lt-ltb, le-ltb, lt-leb, leb-true, leb-false}
 use lib.Dec.{eqb, leb, ltb}
 use Rattle.terms.specs.declared.entry.Entry.{Entry}
 use Rattle.terms.specs.declared.submission.Submission.{Submission}
 use Rattle.terms.specs.Entry.{slotAt}
 use Rattle.terms.specs.Number.{accepted}
 use Rattle.terms.specs.Rule.{firstBroken}
-use Rattle.journal.specs.Journal.{Journal, standing, slotIf, isThere, dayOf, onDay}
+use Rattle.journal.specs.Journal.{Journal, isThere, dayOf, onDay}
 use Rattle.journal.proofs.Bools.{false-is}
 use Rattle.calls.specs.Checks.{isBadDate, isBackDated, sameDay, contentRules, sameDayRules}
 use Rattle.calls.proofs.Bools.{neither}

@@ -1,4 +1,4 @@
-use mathlib.Core.Path.{_≡_, ap}
+use mathlib.Core.Path.{ap}
 use borrow.Author.Needs.{needs}
 use Rattle.reads.specs.declared.search.Search.{Search}
 use Rattle.reads.specs.Search.{searchAnswer}
