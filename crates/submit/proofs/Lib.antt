@@ -1,4 +1,3 @@
-pub mod Stands
+pub mod Ordered
 pub mod Stages
 pub mod Taken
-pub mod Past

@@ -11,7 +11,6 @@ ghost use Rattle.judge.specs.Inner.Judged.{summaryOf, Counted};
 ghost use Rattle.calls.specs.Checks.{isWithdrawnRead, submitRules};
 ghost use Rattle.submit.specs.Inner.Decision.{refusedDecision, decided, decidedIn, decisionOf, judgedRules};
 use crate::content::content_number;
-use crate::order::is_back_dated;
 use crate::order::order_number;
 use crate::same_day::same_day_number;
 use judge::area::Judged;
@@ -91,8 +90,8 @@ fn judge(s: Submission, t: Summary, recent: Recent) -> Decision
     }
 }
 
-// Every rule that a sound journal is asked, group by group, with the entries that the group needs. A day that is not after the last one ends
-// here, with 1 or one of 9 to 12, and asks for no entry but the one of that day.
+// Every rule that a sound journal is asked, group by group, with the entries that the group needs. What is counted tells the order but for a
+// re-read, so that the last reads are asked for only where all else is right.
 fn decide_sound(area: &[u8], s: Submission, t: Summary, withdrawn: bool) -> Decision
     requires { ⌜ Counted (now area) t × (withdrawn ≡ isWithdrawnRead s (journalOf (now area) .entries)) ⌝ }
     ensures { λ r. ⌜ r ≡ decidedIn s (journalOf (now (area .entry))) (firstBroken (submitRules s (journalOf (now (area .entry))))) ⌝ }
@@ -105,16 +104,11 @@ fn decide_sound(area: &[u8], s: Submission, t: Summary, withdrawn: bool) -> Deci
     if same_day != Number::ACCEPTED {
         return refused(same_day);
     }
-    if is_back_dated(s, t) {
-        return refused(Number::BACK_DATED);
-    }
-    let recent = recent(area, t);
-    let last = recent.last;
-    let order = order_number(area, s, t, last);
+    let order = order_number(area, s, t);
     if order != Number::ACCEPTED {
         return refused(order);
     }
-    judge(s, t, recent)
+    judge(s, t, recent(area, t))
 }
 
 // What an area makes of a submission. Nothing is written.

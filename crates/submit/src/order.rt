@@ -1,15 +1,11 @@
 // The submitted read after those of the journal: 12, 13, 9 and 14 to 16.
 ghost use mathlib.Core.Path.{_≡_};
 ghost use mathlib.Core.Bool.{false};
-ghost use mathlib.Core.List.{List};
-ghost use Rattle.terms.specs.declared.entry.Entry.{Entry};
 ghost use Rattle.terms.specs.Entry.{slotAt};
 ghost use Rattle.terms.specs.Rule.{firstBroken};
-ghost use Rattle.journal.specs.Journal.{Journal, journalOf, standing, kept, heldOf, isThere, dayOf, onDay};
-ghost use Rattle.journal.specs.Sound.{any, isFinalRead};
-ghost use Rattle.judge.specs.Inner.Judged.{Counted};
-ghost use Rattle.calls.specs.Checks.{isBadDate, isBackDated, isUnopened, isATLater, isOpeningIndicated, isHeldEqual, isUnheldReread, isFull, orderRules};
-use journal::slot::is_there;
+ghost use Rattle.journal.specs.Journal.{Journal, journalOf, standing, kept, heldOf, isThere};
+ghost use Rattle.judge.specs.Inner.Judged.{summaryOf, Counted};
+ghost use Rattle.calls.specs.Checks.{isBadDate, isBackDated, isUnopened, isATLater, isOpeningIndicated, isHeldEqual, isUnheldReread, isFull, sameDay, orderRules};
 use judge::area::Summary;
 use reads::held::held;
 use register::head::Head;
@@ -23,24 +19,26 @@ use terms::submission::Submission;
 
 // 12: earlier than the last standing read. The submitted day is not 0, and no read of that day stands: a day that is not after the last one
 // is before it. Where none stands the last day is 0.
-pub(crate) fn is_back_dated(s: Submission, t: Summary) -> bool
-    ensures { λ r. ⌜ ((ss : List Entry) → t .day ≡ dayOf (slotAt ss 0) → isBadDate s ≡ false → isThere (onDay (s .day) ss) ≡ false → r ≡ isBackDated s (slotAt ss 0)) ⌝ }
+fn is_back_dated(s: Submission, t: Summary) -> bool
+    ensures { λ r. ⌜ ((j : Journal) → t ≡ summaryOf j → isBadDate s ≡ false → isThere (sameDay s j) ≡ false → r ≡ isBackDated s (slotAt (standing (j .entries)) 0)) ⌝ }
 {
     s.day <= t.day
 }
 
-// 13: none stands, and the type is not I or O. A read stands if there is a last one.
-fn is_unopened(s: Submission, last: Slot) -> bool
-    ensures { λ r. ⌜ ((ss : List Entry) → last ≡ slotAt ss 0 → r ≡ isUnopened s ss) ⌝ }
+// 13: none stands, and the type is not I or O.
+fn is_unopened(s: Submission, t: Summary) -> bool
+    ensures { λ r. ⌜ ((j : Journal) → t ≡ summaryOf j → r ≡ isUnopened s (standing (j .entries))) ⌝ }
 {
-    !is_there(last) & !is_opening(s.letter)
+    let counts = t.counts;
+    (counts.standing == 0) & !is_opening(s.letter)
 }
 
 // 9 for a type I or O with a read standing, or F with an F standing.
-fn is_at_later(s: Submission, last: Slot, ended: bool) -> bool
-    ensures { λ r. ⌜ ((ss : List Entry) → last ≡ slotAt ss 0 → ended ≡ any isFinalRead ss → r ≡ isATLater s ss) ⌝ }
+fn is_at_later(s: Submission, t: Summary) -> bool
+    ensures { λ r. ⌜ ((j : Journal) → t ≡ summaryOf j → r ≡ isATLater s (standing (j .entries))) ⌝ }
 {
-    (is_opening(s.letter) & is_there(last)) | ((s.letter == Letter::FINAL) & ended)
+    let counts = t.counts;
+    (is_opening(s.letter) & (0 < counts.standing)) | ((s.letter == Letter::FINAL) & t.ended)
 }
 
 // 14: I or O with an indicator.
@@ -81,16 +79,19 @@ fn is_full(head: Head, count: u8) -> bool
     count == most_entries(head)
 }
 
-// The number of the first rule broken, or 0, for a read that is not back-dated.
-pub(crate) fn order_number(area: &[u8], s: Submission, t: Summary, last: Slot) -> u8
+// The number of the first rule broken, or 0, for a read of a good date on whose day none stands.
+pub(crate) fn order_number(area: &[u8], s: Submission, t: Summary) -> u8
     requires { ⌜ Counted (now area) t ⌝ }
-    ensures { λ r. ⌜ (last ≡ slotAt (standing (journalOf (now (area .entry)) .entries)) 0 → isBackDated s last ≡ false → r ≡ firstBroken (orderRules s (journalOf (now (area .entry))))) ⌝ }
+    ensures { λ r. ⌜ (isBadDate s ≡ false → isThere (sameDay s (journalOf (now (area .entry)))) ≡ false → r ≡ firstBroken (orderRules s (journalOf (now (area .entry))))) ⌝ }
 {
     let counts = t.counts;
-    if is_unopened(s, last) {
+    if is_back_dated(s, t) {
+        return Number::BACK_DATED;
+    }
+    if is_unopened(s, t) {
         return Number::DF;
     }
-    if is_at_later(s, last, t.ended) {
+    if is_at_later(s, t) {
         return Number::AT;
     }
     if is_opening_indicated(s) {

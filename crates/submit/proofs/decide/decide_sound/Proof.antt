@@ -1,14 +1,12 @@
 -- The first group that gives a number decides, each asked of the journal that was counted.
 use mathlib.Core.Path.{_≡_, ap, sym, _∙_}
 use borrow.Author.Tests.{ne-eqb, eq-eqb}
-use Rattle.terms.specs.declared.entry.Recent.{Recent}
-use Rattle.terms.specs.Entry.{slotAt, recentOf}
 use Rattle.terms.specs.Rule.{firstBroken}
-use Rattle.journal.specs.Journal.{journalOf, standing}
+use Rattle.journal.specs.Journal.{journalOf}
 use Rattle.judge.specs.declared.area.Summary.{Summary}
 use Rattle.judge.specs.Inner.Judged.{summaryOf}
-use Rattle.calls.specs.Checks.{isBackDated, contentRules, sameDayRules, orderRules}
-use Rattle.submit.proofs.Past.{date-good, none-on-day}
+use Rattle.calls.specs.Checks.{contentRules, sameDayRules, orderRules}
+use Rattle.submit.proofs.Ordered.{date-good, none-on-day}
 use Rattle.submit.proofs.Stages.{in-groups}
 use borrow.Author.Needs.{needs}
 use Rattle.submit.proofs.decide.decide_sound.Statement.{statement}
@@ -62,26 +60,23 @@ returns-2 c =
     )
     (c .refused2 .ensures)
 
-is-back-dated-requires : tie.Need-is-back-dated-requires
-is-back-dated-requires c κs = search needs
+order-number-requires : tie.Need-order-number-requires
+order-number-requires c κs = c .before .before .before .before .before .before .pre .0
 
--- the last day is the journal's, the date is good, and no read of that day stands
-back-dated-is : (c : tie.After-is-back-dated) → let start = c .before .before .before .before .before .before .before in c .is-back-dated .result ≡ isBackDated (start .args .s) (slotAt (standing (journalOf (start .args .area .now) .entries)) 0)
-unfolding summaryOf
-back-dated-is c =
+-- and so is the order, of a read of a good date on whose day none stands
+order-is : (c : tie.After-order-number) → let start = c .before .before .before .before .before .before .before in c .order-number .result ≡ firstBroken (orderRules (start .args .s) (journalOf (start .args .area .now)))
+order-is c =
     let e₂ = c .before in
     let e₁ = e₂ .before .before .before in
-    let start = e₁ .before .before .before in
-    c .is-back-dated .ensures _ (ap (λ (t : Summary). t .day) (start .pre .0 .summary)) (date-good _ _ (sym (content-is (e₁ .before)) ∙ e₁ .if1 .left)) (none-on-day _ _ (sym (day-is (e₂ .before)) ∙ e₂ .if2 .left))
+    c .order-number .ensures (date-good _ _ (sym (content-is (e₁ .before)) ∙ e₁ .if1 .left)) (none-on-day _ _ (sym (day-is (e₂ .before)) ∙ e₂ .if2 .left))
 
 refused-requires-3 : tie.Need-refused-requires-3
 refused-requires-3 c κs = search needs
 
 returns-3 : tie.Need-returns-3
-unfolding orderRules
 returns-3 c =
-    let back = c .before .before in
-    let e₂ = back .before in
+    let order = c .before .before in
+    let e₂ = order .before in
     let e₁ = e₂ .before .before .before in
     rw (
       in-groups,
@@ -89,59 +84,23 @@ returns-3 c =
       eq-eqb _ _ (e₁ .if1 .left),
       ← day-is (e₂ .before),
       eq-eqb _ _ (e₂ .if2 .left),
-      ← back-dated-is back,
-      c .before .if3 .taken,
+      ← order-is order,
+      ne-eqb _ _ (c .before .if3 .taken),
     )
     (c .refused3 .ensures)
 
 recent-requires : tie.Need-recent-requires
 recent-requires c κs = search needs
 
--- and so are the last reads
-module _ (c : tie.After-recent) where
-  abbrev start : tie.Start
-  start = c .before .before .before .before .before .before .before .before .before
-
-  recent-is : c .recent .result ≡ recentOf (standing (journalOf (start .args .area .now) .entries))
-  recent-is = c .recent .ensures (start .pre .0)
-
-order-number-requires : tie.Need-order-number-requires
-order-number-requires c κs = start c .pre .0
-
-order-is : (c : tie.After-order-number) → let s = start (c .before) in c .order-number .result ≡ firstBroken (orderRules (s .args .s) (journalOf (s .args .area .now)))
-unfolding recentOf
-order-is c =
-    let e₃ = c .before .before in
-    let last = ap (λ (r : Recent). r .last) (recent-is (c .before)) in
-    c .order-number .ensures last (rw last (sym (back-dated-is (e₃ .before)) ∙ e₃ .if3 .left))
-
-refused-requires-4 : tie.Need-refused-requires-4
-refused-requires-4 c κs = search needs
-
-returns-4 : tie.Need-returns-4
-returns-4 c =
-    let order = c .before .before in
-    let e₂ = order .before .before .before .before in
-    let e₁ = e₂ .before .before .before in
-    rw (
-      in-groups,
-      ← content-is (e₁ .before),
-      eq-eqb _ _ (e₁ .if1 .left),
-      ← day-is (e₂ .before),
-      eq-eqb _ _ (e₂ .if2 .left),
-      ← order-is order,
-      ne-eqb _ _ (c .before .if4 .taken),
-    )
-    (c .refused4 .ensures)
-
 judge-requires : tie.Need-judge-requires
 judge-requires c κs = search needs
 
-returns-5 : tie.Need-returns-5
-returns-5 c =
-    let order = c .before .before in
-    let e₂ = order .before .before .before .before in
+returns-4 : tie.Need-returns-4
+returns-4 c =
+    let order = c .before .before .before in
+    let e₂ = order .before in
     let e₁ = e₂ .before .before .before in
+    let counted = e₁ .before .before .before .pre .0 in
     rw (
       in-groups,
       ← content-is (e₁ .before),
@@ -149,9 +108,9 @@ returns-5 c =
       ← day-is (e₂ .before),
       eq-eqb _ _ (e₂ .if2 .left),
       ← order-is order,
-      eq-eqb _ _ (c .before .if4 .left),
+      eq-eqb _ _ (c .before .before .if3 .left),
     )
-    (c .judge .ensures _ (start (order .before) .pre .0 .summary) (recent-is (order .before)))
+    (c .judge .ensures _ (counted .summary) (c .before .recent .ensures counted))
 
 pub decide-sound-spec : {M : Type 1} → statement M
 decide-sound-spec =
@@ -164,12 +123,9 @@ decide-sound-spec =
     same-day-number-requires
     refused-requires-2
     returns-2
-    is-back-dated-requires
+    order-number-requires
     refused-requires-3
     returns-3
     recent-requires
-    order-number-requires
-    refused-requires-4
-    returns-4
     judge-requires
-    returns-5)
+    returns-4)
