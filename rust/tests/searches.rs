@@ -7,7 +7,7 @@ mod peer;
 
 use common::{area, carried, carry, entry, gone, read, refusal, stands, with_area, zeros, HELD, STANDING, WITHDRAWN};
 use lists::{any_register, say, seed, Random};
-use necktureen::{indicator, submit, Number, AREA_BYTES};
+use necktureen::{indicator, submit, Number, Submission, AREA_BYTES, REGISTER_BYTES};
 use peer::Search;
 use std::io::Write;
 use std::path::Path;
@@ -83,6 +83,18 @@ impl Seen {
     }
 }
 
+/// The lines of a whole register. A place without a sound journal has none.
+fn expected(register: &[u8], seen: &mut Seen) -> String {
+    let mut expected = String::new();
+    for (place, area) in (0..).zip(register.chunks_exact(AREA_BYTES)) {
+        if let Some(answers) = peer::search_each_day(register, place) {
+            seen.count(area, &answers);
+            expected += &lines(place, &answers);
+        }
+    }
+    expected
+}
+
 /// Every day is asked for: those before the first standing one, between any two, on each, and after the last.
 #[test]
 fn the_search_answers_as_the_peer_does() {
@@ -91,17 +103,20 @@ fn the_search_answers_as_the_peer_does() {
     let mut seen = Seen::default();
     for _ in 0..REGISTERS {
         let register = any_register(&mut random);
-        let mut expected = String::new();
-        for (place, area) in (0..).zip(register.chunks_exact(AREA_BYTES)) {
-            if let Some(answers) = peer::search_each_day(&register, place) {
-                seen.count(area, &answers);
-                expected += &lines(place, &answers);
-            }
-        }
+        let expected = expected(&register, &mut seen);
         assert!(printed(&register) == expected, "another answer than the peer's, seed {seed}");
     }
     say(&format!("searched on every day, seed {seed}: {seen:?}"));
     assert!(seen.reached_all(), "never reached, seed {seed}: {seen:?}");
+}
+
+/// What `rt` holds the program to.
+#[test]
+fn the_gates_own_run_is_right() {
+    let mut register = include_bytes!("../../crates/searches/stdin").to_vec();
+    register.resize(REGISTER_BYTES, 0);
+    let lines = expected(&register, &mut Seen::default());
+    assert_eq!(lines, include_str!("../../crates/searches/stdout"));
 }
 
 // ---- By hand ----
@@ -157,7 +172,7 @@ fn a_month_is_sent_again() {
     let register = with_area(5, &area(&journal));
     let is_answered = |day, letter, value, indicator, number| {
         let mut after = register.clone();
-        let sent = necktureen::Submission { indicator, ..read(day, letter, value) };
+        let sent = Submission { indicator, ..read(day, letter, value) };
         assert_eq!(submit(&mut after, 5, sent), refusal(number), "day {day}, value {value}");
         assert_eq!(after, register, "day {day}, value {value}");
     };

@@ -29,7 +29,7 @@ pub record SearchExamples : Type 0 where
   pub on-oldest : searchAnswer 100 threeReads ≡ answered (Read (readOf 100)) 3
   -- none is left that is not later
   pub before-oldest : searchAnswer 99 threeReads ≡ answered Empty 3
-  -- "0 where none stands"
+  -- where none stands nothing is compared
   pub none-stands : searchAnswer 100 [] ≡ answered Empty 0
   -- the way it goes, on days that no sound journal has: it ends at the first day that is not later, whatever comes before that
   pub ends-at-smaller : searchFrom 100 0 (readOf 460 ∷ readOf 99 ∷ readOf 100 ∷ []) ≡ answered Empty 2

@@ -69,7 +69,8 @@ fn search_back(body: &[u8], m: u8, day: u16) -> Search
     not_found(later)
 }
 
-// The newest standing read is where the search begins. Its day is known, so a later day than that needs no entry.
+// The search begins at the newest standing read. Its day is known, so a day after it is compared with that one and needs no entry. Where none
+// stands no entry comes before it either, and nothing is compared.
 pub fn search_day(area: &[u8], t: Summary, day: u16) -> Search
     ensures { λ r. ⌜ (Counted (now (area .entry)) t → r ≡ searchAnswer day (standing (journalOf (now (area .entry)) .entries))) ⌝ }
 {
