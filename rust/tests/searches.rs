@@ -66,19 +66,26 @@ impl Seen {
     fn count(&mut self, area: &[u8], answers: &[Search]) {
         let is_carried = area[6] == 5;
         let kinds: Vec<u8> = area[if is_carried { 15 } else { 6 }..].chunks_exact(10).map(|entry| entry[0]).collect();
-        let ends: Vec<usize> = (0..kinds.len()).filter(|&at| kinds[at] == STANDING).collect();
-        let between = ends.first().zip(ends.last()).map_or(&[][..], |(&first, &last)| &kinds[first..last]);
+        let standing: Vec<usize> = (0..kinds.len()).filter(|&at| kinds[at] == STANDING).collect();
+        let between = standing.first().zip(standing.last()).map_or(&[][..], |(&first, &last)| &kinds[first..last]);
         self.journals += 1;
-        self.none_standing += usize::from(ends.is_empty());
+        self.none_standing += usize::from(standing.is_empty());
         self.after_a_carry += usize::from(is_carried);
         self.withdrawn_between += usize::from(between.contains(&WITHDRAWN));
         self.held += usize::from(kinds.contains(&HELD));
-        self.fifty_standing += usize::from(ends.len() == 50);
+        self.fifty_standing += usize::from(standing.len() == 50);
         self.found += answers.iter().filter(|answer| answer.found.is_some()).count();
     }
 
     fn reached_all(&self) -> bool {
-        let each = [self.none_standing, self.after_a_carry, self.withdrawn_between, self.held, self.fifty_standing];
+        let each = [
+            self.none_standing,
+            self.after_a_carry,
+            self.withdrawn_between,
+            self.held,
+            self.fifty_standing,
+            self.found,
+        ];
         each.iter().all(|&seen| seen > 0)
     }
 }

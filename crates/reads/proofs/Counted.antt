@@ -61,10 +61,10 @@ module _ (a : List ℕ) where
     cases true e rest = rw (e, length-entries k a) e
     cases false e rest = rw e (rest (rw e at h))
 
-none-before : (es : List Entry) → length (standing es) ≡ 0 → newestAt es ≡ 0
+none-comes-before : (es : List Entry) → length (standing es) ≡ 0 → newestAt es ≡ 0
 unfolding those newestAt
-none-before [] h = refl
-none-before (e ∷ es) h = cases (isStanding e) refl (none-before es) where
+none-comes-before [] h = refl
+none-comes-before (e ∷ es) h = cases (isStanding e) refl (none-comes-before es) where
   cases : (b : Bool) → isStanding e ≡ b → (length (standing es) ≡ 0 → newestAt es ≡ 0) → newestAt (e ∷ es) ≡ 0
   cases true s rest = absurd (omega (arith, rw s at h))
   cases false s rest = rw s (rest (rw s at h))
@@ -113,15 +113,19 @@ module _ (a : List ℕ) (t : Summary) (is : Counted a t) where
   unfolding summaryOf countsOf
   kept-is = ap (λ (u : Summary). u .counts .kept) (is .summary)
 
+  newest-of-all : t .counts .newest ≡ newestAt (entriesTo (t .entries) body)
+  newest-of-all = newest-is ∙ ap newestAt in-body
+
+  stand-of-all : t .counts .standing ≡ length (standing (entriesTo (t .entries) body))
+  stand-of-all = stands-is ∙ ap (λ (es : List Entry). length (standing es)) in-body
+
   -- ---- the last standing read
   pub none-stand : t .counts .standing ≡ 0 → standing (journalOf a .entries) ≡ []
   none-stand h = none-there _ (sym stands-is ∙ h)
 
   module _ (some : t .counts .standing ≡ 0 → ⊥) where
     newest-of : (t .counts .newest < t .entries) × (standing (entriesTo (t .entries) body) ≡ entryAt body (entryStart (t .counts .newest)) ∷ standing (entriesTo (t .counts .newest) body))
-    newest-of =
-        let at : t .counts .newest ≡ newestAt (entriesTo (t .entries) body) = newest-is ∙ ap newestAt in-body in
-        rw at (newest-entry body (t .entries) (λ z. some (stands-is ∙ ap (λ (es : List Entry). length (standing es)) in-body ∙ z)))
+    newest-of = rw newest-of-all (newest-entry body (t .entries) (λ z. some (stand-of-all ∙ z)))
 
     pub newest-room : hasRoom a (t .head) (suc (t .counts .newest)) ≡ true
     newest-room = room-is a (t .head) (suc (t .counts .newest)) (is .long) (omega (arith, few, newest-of .0))
@@ -144,12 +148,6 @@ module _ (a : List ℕ) (t : Summary) (is : Counted a t) where
     cases true z = none-stand (eqb-true _ _ z)
     cases false z = false-is (sym h ∙ newest-room (eqb-false _ _ z))
 
-  abbrev newest-of-all : t .counts .newest ≡ newestAt (entriesTo (t .entries) body)
-  newest-of-all = newest-is ∙ ap newestAt in-body
-
-  abbrev stand-of-all : t .counts .standing ≡ length (standing (entriesTo (t .entries) body))
-  stand-of-all = stands-is ∙ ap (λ (es : List Entry). length (standing es)) in-body
-
   to-newest : (b : Bool) → ltb 0 (t .counts .standing) ≡ b → standing (entriesTo (t .counts .newest + boolByte b) body) ≡ standing (journalOf a .entries)
   unfolding entriesTo those
   to-newest true h =
@@ -158,7 +156,7 @@ module _ (a : List ℕ) (t : Summary) (is : Counted a t) where
       rw (one-more, stands) (sym (last-stands some))
   to-newest false h =
       let none : t .counts .standing ≡ 0 = omega (arith, ltb-false 0 (t .counts .standing) h) in
-      rw (newest-of-all, none-before (entriesTo (t .entries) body) (sym stand-of-all ∙ none), none-stand none)
+      rw (newest-of-all, none-comes-before (entriesTo (t .entries) body) (sym stand-of-all ∙ none), none-stand none)
 
   pub lent-all : {start : ℕ} → start ≡ headBytes (t .head) → standing (entriesTo (t .counts .newest + boolByte (ltb 0 (t .counts .standing))) (take (length a - start) (drop start a))) ≡ standing (journalOf a .entries)
   lent-all starts = rw (lent-is a (t .head) starts) (to-newest (ltb 0 (t .counts .standing)) refl)

@@ -1,4 +1,5 @@
--- 02, 3: "The search for a standing read of the submitted day". Lists of entries have the newest first.
+-- 02, 3: "The search for a standing read of the submitted day". Lists are of standing reads, the newest first: those of a journal are
+-- `standing` of its entries, so withdrawn and held ones are passed over, and not compared.
 use mathlib.Core.Path.{_≡_}
 use mathlib.Core.Bool.{Bool, true, cond}
 use mathlib.Core.List.{List, [], _∷_}
@@ -42,6 +43,7 @@ daysCompared day ss = length (those (isLaterThan day) ss) + cond (any (isNotLate
 unfoldable pub searchAnswer : ℕ → List Entry → Search
 searchAnswer day ss = record { found = onDay day ss; compared = daysCompared day ss }
 
--- ---- "Every answer keeps its promise": where standing days rise, as in every sound journal, a search that goes this way answers this
+-- ---- "Every answer keeps its promise": the rules ask for `onDay` as before. Where standing days rise, as in every sound journal, a search
+-- that goes this way answers this.
 abbrev pub SearchHolds : Type 0
 SearchHolds = (day : ℕ) (ss : List Entry) → daysRise ss ≡ true → searchFrom day 0 ss ≡ searchAnswer day ss

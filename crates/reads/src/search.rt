@@ -1,4 +1,4 @@
-// The search for a standing read of a day, from the newest entry back.
+// The search for a standing read of a day, from the newest one back.
 ghost use mathlib.Core.Path.{_≡_};
 ghost use Prim.Native.Nat.{_≤_, _<_};
 ghost use lib.ListN.{length};
@@ -70,7 +70,7 @@ fn search_back(body: &[u8], m: u8, day: u16) -> Search
 }
 
 // The search begins at the newest standing read. Its day is known, so a day after it is compared with that one and needs no entry. Where none
-// stands no entry comes before it either, and nothing is compared.
+// stands `newest` is 0, no entry is searched and nothing is compared.
 pub fn search_day(area: &[u8], t: Summary, day: u16) -> Search
     ensures { λ r. ⌜ (Counted (now (area .entry)) t → r ≡ searchAnswer day (standing (journalOf (now (area .entry)) .entries))) ⌝ }
 {

@@ -43,7 +43,7 @@ fn print_line(place: u64, day: u64, answer: Search) {
     io::write_all(STDOUT_FILENO, b"\n");
 }
 
-fn is_told(answer: Search, before: u8) -> bool {
+fn has_line(answer: Search, before: u8) -> bool {
     let found = answer.found;
     match found {
         Slot::Read(_) => true,
@@ -56,7 +56,7 @@ fn print_days(place: u64, area: &[u8], t: Summary) {
     let mut day: u32 = 0;
     while day < Days::ALL {
         let answer = search_day(area, t, day as u16);
-        if is_told(answer, before) {
+        if has_line(answer, before) {
             print_line(place, day as u64, answer);
         }
         before = answer.compared;

@@ -1,4 +1,4 @@
--- What is counted of a journal says of the order of reads.
+-- What the counts of a journal say of the order of reads.
 use mathlib.Core.Path.{_≡_, refl, ap, sym, _∙_}
 use mathlib.Core.Bool.{Bool, true, false, not}
 use mathlib.Core.List.{List, [], _∷_}
@@ -21,6 +21,7 @@ use Rattle.calls.specs.Checks.{isBadDate, isBackDated, sameDay, contentRules, s
 use Rattle.calls.proofs.Bools.{neither}
 use Rattle.calls.proofs.Broken.{unbroken}
 
+-- ---- back-dated
 module _ (s : Submission) where
   dated : isBadDate s ≡ false → s .day ≡ 0 → ⊥
   unfolding isBadDate

@@ -90,8 +90,8 @@ fn judge(s: Submission, t: Summary, recent: Recent) -> Decision
     }
 }
 
-// Every rule that a sound journal is asked, group by group, with the entries that the group needs. What is counted tells the order but for a
-// re-read, so that the last reads are asked for only where all else is right.
+// Every rule that a sound journal is asked, group by group, with the entries that the group needs: the last reads only where none of 5 to 16
+// is broken.
 fn decide_sound(area: &[u8], s: Submission, t: Summary, withdrawn: bool) -> Decision
     requires { ⌜ Counted (now area) t × (withdrawn ≡ isWithdrawnRead s (journalOf (now area) .entries)) ⌝ }
     ensures { λ r. ⌜ r ≡ decidedIn s (journalOf (now (area .entry))) (firstBroken (submitRules s (journalOf (now (area .entry))))) ⌝ }

@@ -18,7 +18,7 @@ use terms::submission::Indicator;
 use terms::submission::Submission;
 
 // 12: earlier than the last standing read. The submitted day is not 0, and no read of that day stands: a day that is not after the last one
-// is before it. Where none stands the last day is 0.
+// is before it. Where none stands the last day is 0. Equal days are among those that the search was made for, and the two tests are then one.
 fn is_back_dated(s: Submission, t: Summary) -> bool
     ensures { λ r. ⌜ ((j : Journal) → t ≡ summaryOf j → isBadDate s ≡ false → isThere (sameDay s j) ≡ false → r ≡ isBackDated s (slotAt (standing (j .entries)) 0)) ⌝ }
 {
@@ -79,7 +79,7 @@ fn is_full(head: Head, count: u8) -> bool
     count == most_entries(head)
 }
 
-// The number of the first rule broken, or 0, for a read of a good date on whose day none stands.
+// The number of the first rule broken, or 0, for a read of a good date on whose day none stands. What is counted tells all but 15.
 pub(crate) fn order_number(area: &[u8], s: Submission, t: Summary) -> u8
     requires { ⌜ Counted (now area) t ⌝ }
     ensures { λ r. ⌜ (isBadDate s ≡ false → isThere (sameDay s (journalOf (now (area .entry)))) ≡ false → r ≡ firstBroken (orderRules s (journalOf (now (area .entry))))) ⌝ }

@@ -108,8 +108,8 @@ fn of_past_months() -> Vec<Row> {
     let again = |position| Withdrawn::None.next_read(position, ADVANCE);
     let mut rows: Vec<Row> =
         repeats.map(|(case, position)| row(Made::Submit(again(position)), case, 50, Number::Repeat)).into();
-    let eve = Submission { day: day(49) - 1, ..again(49) };
-    rows.push(row(Made::Submit(eve), "refused, a day before the newest (12)", 50, Number::BackDated));
+    let day_before = Submission { day: day(49) - 1, ..again(49) };
+    rows.push(row(Made::Submit(day_before), "refused, a day before the newest (12)", 50, Number::BackDated));
     rows
 }
 

@@ -1,4 +1,4 @@
-//! What a call runs: instructions, which are the same in every run, as valgrind's callgrind counts them.
+//! What a call runs: instructions, which are the same in every run but for a fold's, as valgrind's callgrind counts them.
 
 use crate::before;
 use crate::cases::rows;

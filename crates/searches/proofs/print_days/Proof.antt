@@ -20,8 +20,8 @@ cast-search-day c = search needs
 search-day-requires : tie.Need-search-day-requires Inv-loop μ-loop
 search-day-requires c κs = search needs
 
-is-told-requires : tie.Need-is-told-requires Inv-loop μ-loop
-is-told-requires c κs = search needs
+has-line-requires : tie.Need-has-line-requires Inv-loop μ-loop
+has-line-requires c κs = search needs
 
 cast-print-line : tie.Need-cast-print-line Inv-loop μ-loop
 cast-print-line c = search needs
@@ -50,7 +50,7 @@ print-days-spec =
     loop-holds
     cast-search-day
     search-day-requires
-    is-told-requires
+    has-line-requires
     cast-print-line
     print-line-requires
     add-day

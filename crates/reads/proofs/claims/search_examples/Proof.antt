@@ -1,6 +1,6 @@
 -- Every example computes to what it says.
 use mathlib.Core.Path.{refl}
-use Rattle.terms.specs.Entry.{those}
+use Rattle.terms.specs.Entry.{isStanding, those}
 use Rattle.journal.specs.Journal.{onDay}
 use Rattle.journal.specs.Sound.{any}
 use Rattle.reads.specs.Search.{notFound, endsAt, searchFrom, isLaterThan, isNotLater, daysCompared, searchAnswer}
@@ -8,7 +8,7 @@ use Rattle.reads.proofs.claims.search_examples.Statement.{statement}
 use Rattle.reads.proofs.claims.search_examples.Tie as tie
 
 returns : tie.Need-returns
-unfolding those onDay any notFound endsAt searchFrom isLaterThan isNotLater daysCompared searchAnswer
+unfolding isStanding those onDay any notFound endsAt searchFrom isLaterThan isNotLater daysCompared searchAnswer
 returns c =
     record {
       after-newest = refl;
@@ -18,6 +18,7 @@ returns c =
       before-middle = refl;
       on-oldest = refl;
       before-oldest = refl;
+      others-passed-over = refl;
       none-stands = refl;
       ends-at-smaller = refl;
       ends-at-equal = refl;
