@@ -6,6 +6,7 @@ use mathlib.Core.List.{List, [], _∷_}
 use Prim.Native.Nat.{ℕ, _≤_, _<_}
 use lib.IntN.{negℤ}
 use lib.ListN.{length}
+use Rattle.terms.specs.declared.profile.Profile.{Profile}
 use Rattle.terms.specs.declared.entry.Entry.{Entry}
 use Rattle.terms.specs.declared.submission.Submission.{Submission}
 use Rattle.terms.specs.Answer.{answer}
@@ -103,8 +104,8 @@ pub record Effects : Type 0 where
   pub unfolded : (area : List ℕ) → allZero area ≡ true → meterHead area .carry .folded ≡ 0
   pub carried : (area : List ℕ) → isSound area ≡ true → standingReads area ≡ [] → meterHead area .carried ≡ false
   pub rise : (area : List ℕ) → isSound area ≡ true → daysRise (standingReads area) ≡ true
-  pub enrol : (place dials capacity : ℕ) (area : List ℕ) → length area ≡ areaBytes →
-      let after = act (Enrol place dials capacity) area in
+  pub enrol : (place : ℕ) (profile : Profile) (dials capacity : ℕ) (area : List ℕ) → length area ≡ areaBytes →
+      let after = act (Enrol place profile dials capacity) area in
       numberOf (after .reply) ≡ accepted → Enrolled dials area (after .area)
   pub submit : (place : ℕ) (s : Submission) (area : List ℕ) → length area ≡ areaBytes →
       let after = act (Submit place s) area in
@@ -121,8 +122,8 @@ pub record Effects : Type 0 where
   pub fold-refused : (place : ℕ) (area : List ℕ) →
       let after = act (Fold place) area in
       (numberOf (after .reply) ≡ accepted → ⊥) → after .area ≡ area
-  pub enrol-refused : (place dials capacity : ℕ) (area : List ℕ) →
-      let after = act (Enrol place dials capacity) area in
+  pub enrol-refused : (place : ℕ) (profile : Profile) (dials capacity : ℕ) (area : List ℕ) →
+      let after = act (Enrol place profile dials capacity) area in
       (numberOf (after .reply) ≡ accepted → ⊥) → after .area ≡ area
   pub submit-refused : (place : ℕ) (s : Submission) (area : List ℕ) →
       let after = act (Submit place s) area in

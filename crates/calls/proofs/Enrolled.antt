@@ -4,7 +4,6 @@ use mathlib.Core.Bool.{true, false}
 use mathlib.Core.List.{List, []}
 use Prim.Native.Nat.{ℕ, _≤_}
 use native.Mathlib.Omega.{arith}
-use borrow.Author.Tests.{eq-eqb}
 use lib.Dec.{eqb}
 use lib.ListN.{length, drop}
 use Rattle.register.specs.declared.head.Head.{Head}
@@ -15,11 +14,10 @@ use Rattle.register.proofs.Heads.{Bare, head-length, head-kind, head-same}
 use Rattle.register.proofs.Body.{area-fits, head-body}
 use Rattle.journal.specs.Journal.{entriesTo, journalOf}
 use Rattle.terms.specs.Entry.{kindCarry, those}
-use Rattle.journal.specs.Sound.{every, daysRise, opensRight, hasOneFinal, isHeldRight, areApart, areInOrder, areSound, isPlate, isHead, isSound}
-use Rattle.calls.proofs.Bools.{together}
+use Rattle.journal.specs.Sound.{every, daysRise, opensRight, hasOneFinal, isHeldRight, areApart, areInOrder, areSound, isPlate, isSound}
 use Rattle.calls.proofs.Zeros.{zero-at, zero-drop}
 use Rattle.calls.proofs.Carried.{uncarried-right}
-use Rattle.calls.proofs.Shape.{entries-are, sound-from}
+use Rattle.calls.proofs.Shape.{entries-are, sound-from, good-head}
 
 pub record Enrolled (head : Head) (after : List ℕ) : Type 0 where
   pub size : length after ≡ areaBytes
@@ -50,14 +48,10 @@ module _ (head : Head) (a : List ℕ) (size : length a ≡ areaBytes) (empty : a
   unfolding entriesTo every
   no-entries = entries-are after 0 few end refl
 
-  good-head : isHead after ≡ true
-  unfolding isHead
-  good-head = together (eq-eqb _ _ (head-kind a head fits)) (rw same plate)
-
   pub enrolled : Enrolled head after
   unfolding entriesTo every journalOf areSound areInOrder those daysRise opensRight hasOneFinal isHeldRight areApart
   enrolled = record {
     size = head-length a head ∙ size;
-    sound = sound-from after 0 few end good-head (uncarried-right (headOf after) [] (rw same bare));
+    sound = sound-from after 0 few end (good-head after head same (head-kind a head fits) plate) (uncarried-right (headOf after) [] (rw same bare));
     journal = λ t. record { head = same t; entries = no-entries t };
   }

@@ -13,7 +13,7 @@ use Rattle.terms.specs.Letter.{isOpening}
 use Rattle.register.specs.declared.head.Head.{Head}
 use Rattle.register.specs.Head.{noCarry, mostEntries}
 use Rattle.journal.specs.Journal.{Journal, standing, withdrawn, isFlagged, firstValue, oldestOf, dayOf}
-use Rattle.journal.specs.Sound.{every, any, holds, takes, opens, isInRange, isRead, isLater, daysRise, opensRight, isFinalRead, hasOneFinal, hasRead, isApartFrom, areApart, exists, isHeldRight, isBefore, isCarry, carriesRight, areSound}
+use Rattle.journal.specs.Sound.{every, any, holds, opens, isInRange, isRead, isLater, daysRise, opensRight, isFinalRead, hasOneFinal, hasRead, isApartFrom, areApart, exists, isHeldRight, isBefore, isCarry, carriesRight, areSound}
 use Rattle.journal.proofs.Entries.{those-at-most}
 use Rattle.calls.specs.Checks.{leastToFold, isNoFold}
 use Rattle.journal.specs.Total.{flaggedOf, flaggedIn, firstIn}
@@ -124,7 +124,7 @@ module _ (j : Journal) (bare : j .head .carried ≡ false → j .head .carry ≡
     stand = standing-left es (f .newest) (f .second) (f .third) (f .fourth ∷ f .older) (f .are) (clauses .rise)
 
     reads' : every (isRead head') es' ≡ true
-    unfolding isRead isInRange holds takes headAfter
+    unfolding isRead isInRange holds headAfter
     reads' = every-those (isRead head) (stays (keptFrom es)) es (clauses .reads)
 
     opens' : opensRight head' (f .newest ∷ f .second ∷ f .third ∷ []) ≡ true

@@ -9,6 +9,7 @@ use borrow.Author.Tests.{eqb-true, eqb-false}
 use lib.Dec.{eqb}
 use lib.IntN.{ℤ, pos, negℤ}
 use lib.ListN.{length}
+use Rattle.terms.specs.declared.profile.Profile.{Profile}
 use Rattle.terms.specs.declared.answer.Answer.{Answer}
 use Rattle.terms.specs.declared.submission.Submission.{Submission}
 use Rattle.terms.specs.Answer.{answer}
@@ -68,9 +69,9 @@ module _ (effects : Effects) (area : List ℕ) (l : Ledger) where
   fresh : allZero area ≡ true → Good area l → Fresh area l
   fresh zero good = ⊎-elim (λ f. f) (λ g. absurd (effects .apart area zero (g .sound))) good
 
-  enrol-good : (place dials capacity : ℕ) (after : List ℕ) (reply : Reply) → Enrolled dials area after → Good area l → Live after (entered (Enrol place dials capacity) reply l)
+  enrol-good : (place : ℕ) (profile : Profile) (dials capacity : ℕ) (after : List ℕ) (reply : Reply) → Enrolled dials area after → Good area l → Live after (entered (Enrol place profile dials capacity) reply l)
   unfolding entered namesOf isAmong areNoneOf namesRise firstNamed firstValue
-  enrol-good place dials capacity after reply e good =
+  enrol-good place profile dials capacity after reply e good =
       let f = fresh (e .zero) good in
       let head = meterHead after in
       let uncarried = effects .carried after (e .sound) (e .none) in
@@ -172,10 +173,10 @@ module _ (effects : Effects) (area : List ℕ) (l : Ledger) where
 
   pub call-good : (call : Call) → length area ≡ areaBytes → Good area l → Next call
   unfolding entered
-  call-good (Enrol place dials capacity) size good =
-      by-answer (Enrol place dials capacity)
-      (λ h. inr (enrol-good place dials capacity _ (act (Enrol place dials capacity) area .reply) (effects .enrol place dials capacity area size h) good))
-      (λ h. unchanged-good _ (effects .enrol-refused place dials capacity area h) good)
+  call-good (Enrol place profile dials capacity) size good =
+      by-answer (Enrol place profile dials capacity)
+      (λ h. inr (enrol-good place profile dials capacity _ (act (Enrol place profile dials capacity) area .reply) (effects .enrol place profile dials capacity area size h) good))
+      (λ h. unchanged-good _ (effects .enrol-refused place profile dials capacity area h) good)
   call-good (Submit place s) size good =
       by-answer (Submit place s)
       (λ h. inr (submit-good place s _ (act (Submit place s) area .reply) (effects .submit place s area size h) good))

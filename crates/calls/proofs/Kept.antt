@@ -6,6 +6,7 @@ use Prim.Native.Nat.{ℕ}
 use borrow.Author.Tests.{eqb-true}
 use lib.Dec.{eqb}
 use lib.ListN.{length}
+use Rattle.terms.specs.declared.profile.Profile.{Profile}
 use Rattle.terms.specs.declared.submission.Submission.{Submission}
 use Rattle.terms.specs.Number.{accepted}
 use Rattle.terms.specs.Rule.{firstBroken}
@@ -35,9 +36,9 @@ by-number : {X : Type 0} (number : ℕ) → (number ≡ accepted → X) → (eqb
 by-number number f g = by-test (eqb number accepted) (λ h. f (eqb-true number accepted h)) g
 
 module _ (a : List ℕ) (g : GoodArea a) where
-  enrol-keeps : (dials capacity : ℕ) → GoodArea (enrolIn (plateOf dials capacity) a .area)
-  enrol-keeps dials capacity =
-      let plate = plateOf dials capacity in
+  enrol-keeps : (profile : Profile) (dials capacity : ℕ) → GoodArea (enrolIn (plateOf profile dials capacity) a .area)
+  enrol-keeps profile dials capacity =
+      let plate = plateOf profile dials capacity in
       by-number (firstBroken (enrolChecks plate a))
       (λ h. let w = enrolment plate a (g .size) refl refl h in good-sound (w .size) (w .sound))
       (λ h. good-same (enrol-unchanged plate a h) g)
@@ -65,7 +66,7 @@ module _ (a : List ℕ) (g : GoodArea a) where
 
 pub keeps : (call : Call) (a : List ℕ) → GoodArea a → GoodArea (act call a .area)
 unfolding act
-keeps (Enrol place dials capacity) a g = enrol-keeps a g dials capacity
+keeps (Enrol place profile dials capacity) a g = enrol-keeps a g profile dials capacity
 keeps (Submit place read) a g = submit-keeps a g read
 keeps (Withdraw place day value) a g = withdraw-keeps a g day value
 keeps (ReportCall place) a g = good-same (report-unchanged a) g

@@ -10,7 +10,7 @@ use lib.Dec.{eqb}
 use Rattle.terms.specs.declared.entry.Entry.{Entry}
 use Rattle.terms.specs.declared.submission.Submission.{Submission}
 use Rattle.terms.specs.Entry.{slotAt}
-use Rattle.terms.specs.Number.{repeat, missing, content, date, withdrawnRead, readAT, readEH, readBF, backDated}
+use Rattle.terms.specs.Number.{repeat, missing, content, otherType, date, withdrawnRead, readAT, readEH, readBF, backDated}
 use Rattle.terms.specs.Rule.{firstBroken}
 use Rattle.register.specs.Area.{areasIn, areaOf, allZero}
 use Rattle.journal.specs.Journal.{journalOf, isThere, onDay}
@@ -18,7 +18,7 @@ use Rattle.journal.specs.Numbers.{areaRules}
 use Rattle.calls.specs.declared.call.Call.{Call}
 use Rattle.calls.specs.declared.call.Call.the-variants.{Submit}
 use Rattle.calls.specs.declared.call.Reply.{Reply}
-use Rattle.calls.specs.Checks.{isMissing, isBadContent, isBadDate, isWithdrawnRead, isRepeat, isATOnDay, isOtherIndicator, isBackDated, sameDay, contentRules, sameDayRules, orderRules, submitRules, submitChecks}
+use Rattle.calls.specs.Checks.{isMissing, isBadContent, isOtherType, isBadDate, isWithdrawnRead, isRepeat, isATOnDay, isOtherIndicator, isBackDated, sameDay, contentRules, sameDayRules, orderRules, submitRules, submitChecks}
 use Rattle.calls.specs.Calls.{act, placeOf, step}
 use Rattle.calls.specs.Play.{exchanges, registerAfter, zeroRegister, numberOf}
 use Rattle.calls.specs.Ledger.{Named, named, Ledger, emptyLedger, ledgerOf, isSameRead, isAmong, areNoneOf}
@@ -69,22 +69,23 @@ not-both r (x ∷ rs) others none h o =
     apart (sym (same-among r x others (same .0) (same .1)) ∙ o) (not-true _ (n .0)))
     (λ there. not-both r rs others (n .1) there o)
 
--- ---- the first nine rules of a submission: all but a repeat have a number from 5 to 12
-in-range : (m c d w r a i o b : Bool) (rest : ℕ)
+-- ---- the first ten rules of a submission: all but a repeat have a number from 5 to 12, or 29
+in-range : (m c t d w r a i o b : Bool) (rest : ℕ)
     → r ≡ false
     → (d ≡ false → w ≡ false → o ≡ false → b ≡ false → ⊥)
-    → isKeptOut (cond m missing (cond c content (cond d date (cond w withdrawnRead (cond r repeat (cond a readAT (cond i readEH (cond o readBF (cond b backDated rest))))))))) ≡ true
+    → isKeptOut (cond m missing (cond c content (cond t otherType (cond d date (cond w withdrawnRead (cond r repeat (cond a readAT (cond i readEH (cond o readBF (cond b backDated rest)))))))))) ≡ true
 unfolding isKeptOut
-in-range true c d w r a i o b rest new out = refl
-in-range false true d w r a i o b rest new out = refl
-in-range false false true w r a i o b rest new out = refl
-in-range false false false true r a i o b rest new out = refl
-in-range false false false false true a i o b rest new out = absurd (apart refl new)
-in-range false false false false false true i o b rest new out = refl
-in-range false false false false false false true o b rest new out = refl
-in-range false false false false false false false true b rest new out = refl
-in-range false false false false false false false false true rest new out = refl
-in-range false false false false false false false false false rest new out = absurd (out refl refl refl refl)
+in-range true c t d w r a i o b rest new out = refl
+in-range false true t d w r a i o b rest new out = refl
+in-range false false true d w r a i o b rest new out = refl
+in-range false false false true w r a i o b rest new out = refl
+in-range false false false false true r a i o b rest new out = refl
+in-range false false false false false true a i o b rest new out = absurd (apart refl new)
+in-range false false false false false false true i o b rest new out = refl
+in-range false false false false false false false true o b rest new out = refl
+in-range false false false false false false false false true b rest new out = refl
+in-range false false false false false false false false false true rest new out = refl
+in-range false false false false false false false false false false rest new out = absurd (out refl refl refl refl)
 
 -- ---- a withdrawn read, sent to an area of which the ledger speaks
 module _ (s : Submission) (a : List ℕ) (l : Ledger) (g : Live a l) (was : isAmong (named (s .day) (s .value)) (l .withdrawn) ≡ true) where
@@ -131,7 +132,7 @@ module _ (s : Submission) (a : List ℕ) (l : Ledger) (g : Live a l) (was : isAm
       (λ zero. absurd (effects .apart a zero (g .sound)))
       (λ h.
       rw (h, g .sound)
-      (in-range (isMissing s) (isBadContent (j .head .dials) s) (isBadDate s) (isWithdrawnRead s (j .entries)) (isRepeat s (sameDay s j)) (isATOnDay s (sameDay s j)) (isOtherIndicator s (sameDay s j)) (isThere (sameDay s j)) (isBackDated s (slotAt (standingReads a) 0)) _ no-repeat out))
+      (in-range (isMissing s) (isBadContent (j .head .dials) s) (isOtherType (j .head .profile) s) (isBadDate s) (isWithdrawnRead s (j .entries)) (isRepeat s (sameDay s j)) (isATOnDay s (sameDay s j)) (isOtherIndicator s (sameDay s j)) (isThere (sameDay s j)) (isBackDated s (slotAt (standingReads a) 0)) _ no-repeat out))
 
 -- ---- after every list of calls
 module _ (meter : ℕ) (here : meter < areasIn zeroRegister) (calls : List Call) (s : Submission) where

@@ -10,23 +10,24 @@ use lib.Dec.{eqb, leb}
 use lib.IntN.{negℤ}
 use lib.ListN.{length}
 use Rattle.register.specs.declared.head.Head.{Head}
+use Rattle.terms.specs.declared.profile.Profile.{Profile}
 use Rattle.terms.specs.declared.entry.Entry.{Entry}
 use Rattle.terms.specs.declared.entry.Slot.{Slot}
 use Rattle.terms.specs.declared.entry.Slot.the-variants.{Read, Empty}
 use Rattle.terms.specs.declared.submission.Submission.{Submission}
-use Rattle.terms.specs.Entry.{those, kindMeter, kindCarry, indicatorNotSet, indicatorTrue, isStanding, isWithdrawn, isHeld, slotAt}
+use Rattle.terms.specs.Entry.{those, kindCarry, indicatorNotSet, indicatorTrue, isStanding, isWithdrawn, isHeld, slotAt}
 use Rattle.terms.specs.Letter.{isOpening}
+use Rattle.terms.specs.Profile.{takes}
 use Rattle.terms.specs.Answer.{answer}
 use Rattle.terms.specs.Number.{accepted}
 use Rattle.rules.specs.Volume.{advanceOver}
 use Rattle.terms.specs.Rule.{firstBroken}
 use Rattle.register.specs.Area.{areaBytes, allZero}
-use Rattle.register.specs.Bytes.{byteAt}
 use Rattle.register.specs.Entries.{entryStart}
 use Rattle.register.specs.Head.{meterBytes, isCarryAt, noCarry, headOf, headBytes, bodyOf}
 use Rattle.register.proofs.Heads.{bare-carry}
 use Rattle.journal.specs.Journal.{Journal, journalOf, entriesTo, standing}
-use Rattle.journal.specs.Sound.{every, leastDials, mostDials, isHead, isPlate, holds, takes, opens, isInRange, isRead, opensRight, isSound}
+use Rattle.journal.specs.Sound.{every, leastDials, mostDials, isPlate, holds, opens, isInRange, isRead, opensRight, isSound}
 use Rattle.calls.specs.declared.call.Call.{Call}
 use Rattle.calls.specs.declared.call.Call.the-variants.{Enrol, Submit, Withdraw, Report as ReportCall, Fold}
 use Rattle.calls.specs.declared.call.Reply.the-variants.{Answered}
@@ -38,7 +39,7 @@ use Rattle.calls.proofs.Broken.{unbroken}
 use Rattle.calls.proofs.Zeros.{zero-at, zero-drop}
 use Rattle.calls.proofs.Lists.{every-those}
 use Rattle.calls.proofs.Clauses.{Clauses, clauses-of}
-use Rattle.calls.proofs.Shape.{sounds, entries-are}
+use Rattle.calls.proofs.Shape.{sounds, entries-are, plate-of, head-there}
 use Rattle.calls.proofs.Accepted.{accepted-checked, query-passed}
 use Rattle.calls.proofs.Withdrawn.{can-withdraw, now-withdrawn, still-withdrawn}
 use Rattle.calls.proofs.Acted.{enrolment, enrol-unchanged, submission, volume-query, submit-unchanged, accepted-standing, accepted-withdrawn, query-standing, query-withdrawn, withdrawal-in, withdraw-unchanged, report-unchanged, can-fold, fold-in, fold-unchanged}
@@ -61,7 +62,7 @@ fifth a b c d e f h = both e f (both d _ (both c _ (both b _ (both a _ h .1) .1)
 flag-bound : (head : Head) (e : Entry) → isInRange head e ≡ true → leb (e .flag) 1 ≡ true
 unfolding isInRange
 flag-bound head e h =
-    fifth (not (eqb (e .day) 0)) (holds head (e .value)) (takes head (e .letter)) (leb (e .indicator) indicatorTrue) (leb (e .flag) 1) (not (isOpening (e .letter)) || eqb (e .indicator) indicatorNotSet) h
+    fifth (not (eqb (e .day) 0)) (holds head (e .value)) (takes (head .profile) (e .letter)) (leb (e .indicator) indicatorTrue) (leb (e .flag) 1) (not (isOpening (e .letter)) || eqb (e .indicator) indicatorNotSet) h
 
 -- ---- a sound area
 module _ (area : List ℕ) (sound : isSound area ≡ true) where
@@ -71,20 +72,13 @@ module _ (area : List ℕ) (sound : isSound area ≡ true) where
   clauses : Clauses head (journalOf area .entries)
   clauses = clauses-of head (journalOf area .entries) (sounds area sound .sound)
 
-  plated : (eqb (byteAt area 0) kindMeter ≡ true) × (isPlate head ≡ true)
-  unfolding isHead
-  plated = both (eqb (byteAt area 0) kindMeter) (isPlate head) (sounds area sound .head)
-
   not-zero : allZero area ≡ true → ⊥
-  not-zero zero =
-      let kind : byteAt area 0 ≡ kindMeter = eqb-true (byteAt area 0) kindMeter (plated .0) in
-      let none : byteAt area 0 ≡ 0 = zero-at area 0 zero in
-      omega arith
+  not-zero zero = head-there area (sounds area sound .head) (zero-at area 0 zero)
 
   dials-few : journalOf area .head .dials < 10
   unfolding isPlate journalOf
   dials-few =
-      let upper : leb (head .dials) mostDials ≡ true = both _ (not (eqb (head .capacity) 0)) (both (leb leastDials (head .dials)) _ (plated .1) .1) .0 in
+      let upper : leb (head .dials) mostDials ≡ true = both _ (not (eqb (head .capacity) 0)) (both (leb leastDials (head .dials)) _ (plate-of area (sounds area sound .head)) .1) .0 in
       let most : head .dials ≤ mostDials = leb-true (head .dials) mostDials upper in
       omega arith
 
@@ -155,13 +149,13 @@ module _ (area : List ℕ) where
   fold-number = by-test (eqb foldNumber accepted) (λ h. rw h (sym (eqb-true foldNumber accepted h))) (λ h. rw h)
 
 -- ---- what the accepted calls do
-module _ (place dials capacity : ℕ) (area : List ℕ) (size : length area ≡ areaBytes) where
-  known-enrol : numberOf (act (Enrol place dials capacity) area .reply) ≡ accepted → Enrolled dials area (act (Enrol place dials capacity) area .area)
+module _ (place : ℕ) (profile : Profile) (dials capacity : ℕ) (area : List ℕ) (size : length area ≡ areaBytes) where
+  known-enrol : numberOf (act (Enrol place profile dials capacity) area .reply) ≡ accepted → Enrolled dials area (act (Enrol place profile dials capacity) area .area)
   unfolding act those enrolChecks
   known-enrol h =
-      let number : enrolNumber (plateOf dials capacity) area ≡ accepted = sym (enrol-number (plateOf dials capacity) area) ∙ h in
-      let e = enrolment (plateOf dials capacity) area size refl refl number in
-      let u = unbroken accepted (enrolChecks (plateOf dials capacity) area) refl number in
+      let number : enrolNumber (plateOf profile dials capacity) area ≡ accepted = sym (enrol-number (plateOf profile dials capacity) area) ∙ h in
+      let e = enrolment (plateOf profile dials capacity) area size refl refl number in
+      let u = unbroken accepted (enrolChecks (plateOf profile dials capacity) area) refl number in
       record {
         zero = not-false (allZero area) (u .0);
         sound = e .sound;
@@ -283,10 +277,10 @@ kept-size e size = ap length e ∙ size
 
 size-after : (call : Call) (area : List ℕ) → length area ≡ areaBytes → length (act call area .area) ≡ areaBytes
 unfolding act
-size-after (Enrol place dials capacity) area size =
-    by-test (eqb (enrolNumber (plateOf dials capacity) area) accepted)
-    (λ h. enrolment (plateOf dials capacity) area size refl refl (eqb-true _ _ h) .size)
-    (λ h. kept-size (enrol-unchanged (plateOf dials capacity) area h) size)
+size-after (Enrol place profile dials capacity) area size =
+    by-test (eqb (enrolNumber (plateOf profile dials capacity) area) accepted)
+    (λ h. enrolment (plateOf profile dials capacity) area size refl refl (eqb-true _ _ h) .size)
+    (λ h. kept-size (enrol-unchanged (plateOf profile dials capacity) area h) size)
 size-after (Submit place s) area size =
     by-test (eqb (submitNumber s area) accepted)
     (λ h. submission s area size (eqb-true _ _ h) .size)
@@ -332,7 +326,7 @@ effects =
       withdraw = known-withdraw;
       fold = known-fold;
       fold-refused = λ place area h. fold-unchanged area (by-number _ (fold-number area) h);
-      enrol-refused = λ place dials capacity area h. enrol-unchanged (plateOf dials capacity) area (by-number _ (enrol-number (plateOf dials capacity) area) h);
+      enrol-refused = λ place profile dials capacity area h. enrol-unchanged (plateOf profile dials capacity) area (by-number _ (enrol-number (plateOf profile dials capacity) area) h);
       submit-refused = λ place s area h. submit-left s area h;
       withdraw-refused = λ place day value area h. withdraw-unchanged day value area (by-number _ (withdraw-number day value area) h);
       report = λ place area. report-unchanged area;
@@ -345,7 +339,7 @@ unfolding mayChange
 never-accepted number h = eqb-false number accepted (neither (eqb number accepted) (isVolumeQuery number) h .0)
 
 unchanged : (call : Call) (area : List ℕ) → mayChange (numberOf (act call area .reply)) ≡ false → act call area .area ≡ area
-unchanged (Enrol place dials capacity) area h = effects .enrol-refused place dials capacity area (never-accepted _ h)
+unchanged (Enrol place profile dials capacity) area h = effects .enrol-refused place profile dials capacity area (never-accepted _ h)
 unchanged (Submit place s) area h = effects .submit-refused place s area h
 unchanged (Withdraw place day value) area h = effects .withdraw-refused place day value area (never-accepted _ h)
 unchanged (ReportCall place) area h = effects .report place area

@@ -4,11 +4,11 @@ use mathlib.Core.Bool.{true, false}
 use mathlib.Core.List.{List, [], _∷_}
 use Prim.Native.Nat.{ℕ, suc, _+_, _≤_}
 use native.Mathlib.Omega.{arith}
-use borrow.Author.Tests.{eq-eqb}
 use lib.Dec.{eqb}
 use lib.ListN.{length, drop, replicate, length-replicate}
 use Rattle.terms.specs.declared.entry.Entry.{Entry}
-use Rattle.terms.specs.Entry.{kindMeter, kindCarry}
+use Rattle.terms.specs.Entry.{kindCarry}
+use Rattle.terms.specs.Profile.{meterKind}
 use Rattle.register.specs.declared.head.Head.{Head}
 use Rattle.register.specs.Area.{areaBytes, allZero}
 use Rattle.register.specs.Bytes.{byteAt}
@@ -18,12 +18,12 @@ use Rattle.register.proofs.Back.{entry-length, entry-below, entry-above, entry-
 use Rattle.register.proofs.Heads.{Bare, head-length, head-kind, head-same}
 use Rattle.register.proofs.Body.{NoCarryKind, area-fits, body-room, head-body, entry-head, entry-head-kind, entry-body}
 use Rattle.journal.specs.Journal.{Journal, entriesTo, journalOf, putEntries, areaFor}
-use Rattle.journal.specs.Sound.{every, isRead, isPlate, isHead, areSound, isSound}
-use Rattle.calls.proofs.Bools.{both, together}
+use Rattle.journal.specs.Sound.{every, isRead, isPlate, areSound, isSound}
+use Rattle.calls.proofs.Bools.{both}
 use Rattle.calls.proofs.Zeros.{zero-at, zero-drop, zero-past, zero-replicate}
 use Rattle.calls.proofs.Lists.{no-carry-kind}
 use Rattle.calls.proofs.Clauses.{clauses-of}
-use Rattle.calls.proofs.Shape.{entries-are, sound-from, same-entries}
+use Rattle.calls.proofs.Shape.{entries-are, sound-from, same-entries, good-head}
 
 offset-of : (a : List ℕ) (k : ℕ) → entryOffset a k ≡ offsetAfter (headOf a) k
 unfolding entryOffset
@@ -32,7 +32,7 @@ offset-of a k = refl
 -- an area with a head and some entries, and then zeros
 pub record Holds (head : Head) (es : List Entry) (a : List ℕ) : Type 0 where
   pub size : length a ≡ areaBytes
-  pub kind : byteAt a 0 ≡ kindMeter
+  pub kind : byteAt a 0 ≡ meterKind (head .profile)
   pub head-is : headOf a ≡ head
   pub entries-are : entriesTo (length es) (bodyOf a) ≡ es
   pub end : allZero (drop (entryStart (length es)) (bodyOf a)) ≡ true
@@ -138,8 +138,7 @@ module _ (j : Journal) (bare : j .head .carried ≡ false → j .head .carry ≡
       λ t. record { head = head t; entries = entries t }
 
   pub laid-sound : isSound (areaFor j) ≡ true
-  unfolding isHead
   laid-sound =
       sound-from (areaFor j) (length (j .entries)) few-here (holds .end)
-      (together (eq-eqb _ _ (holds .kind)) (rw (holds .head-is) plate))
+      (good-head (areaFor j) (j .head) (holds .head-is) (holds .kind) plate)
       (rw (holds .head-is, holds .entries-are) sound)

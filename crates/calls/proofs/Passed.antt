@@ -11,6 +11,7 @@ use Rattle.terms.specs.declared.entry.Entry.{Entry}
 use Rattle.terms.specs.declared.entry.Recent.{Recent}
 use Rattle.terms.specs.declared.submission.Submission.{Submission}
 use Rattle.terms.specs.Letter.{letterI, letterO, letterF, letterC, letterU, letterR, letterT, letterS, letterX, letterY, letterE, isKnown, isOpening, isFinal, isHoldable, isUnchecked}
+use Rattle.terms.specs.Profile.{takes}
 use Rattle.terms.specs.Rule.{firstBroken}
 use Rattle.terms.specs.Entry.{kindStanding, slotAt, recentOf, indicatorNotSet, indicatorFalse, indicatorTrue}
 use Rattle.rules.specs.declared.detection.Detected.{Detected}
@@ -21,9 +22,9 @@ use Rattle.rules.specs.Volume.{isLowVolume, isHighVolume}
 use Rattle.rules.proofs.Queries.{query}
 use Rattle.journal.specs.Journal.{Journal, journalOf, standing, withdrawn, isThere, onDay}
 use Rattle.journal.specs.Numbers.{areaRules}
-use Rattle.journal.specs.Sound.{any, hasRead, holds, takes, opens, isInRange, isFinalRead, exists, isSound}
+use Rattle.journal.specs.Sound.{any, hasRead, holds, opens, isInRange, isFinalRead, exists, isSound}
 use Rattle.journal.specs.Inner.Follow.{isAfter, mayStand}
-use Rattle.calls.specs.Checks.{isBadContent, isBadDate, isWithdrawnRead, isBackDated, isUnopened, isATLater, isOpeningIndicated, isFull, indicatedIn, takenFlag, recent, sameDay, contentRules, sameDayRules, orderRules, indicatorRules, volumeRules, submitRules, submitChecks}
+use Rattle.calls.specs.Checks.{isBadContent, isOtherType, isBadDate, isWithdrawnRead, isBackDated, isUnopened, isATLater, isOpeningIndicated, isFull, indicatedIn, takenFlag, recent, sameDay, contentRules, sameDayRules, orderRules, indicatorRules, volumeRules, submitRules, submitChecks}
 use Rattle.calls.specs.Calls.{entryFor}
 use Rattle.calls.proofs.Bools.{together, neither, right-or, apart, by-test}
 use Rattle.calls.proofs.Broken.{Unbroken, haveOthers, past-group}
@@ -31,6 +32,7 @@ use Rattle.calls.proofs.Broken.{Unbroken, haveOthers, past-group}
 -- ---- the rules before those of volume
 pub record Passed (s : Submission) (j : Journal) : Type 0 where
   pub content : isBadContent (j .head .dials) s ≡ false
+  pub type : isOtherType (j .head .profile) s ≡ false
   pub date : isBadDate s ≡ false
   pub fresh : isWithdrawnRead s (j .entries) ≡ false
   pub own-day : isThere (sameDay s j) ≡ false
@@ -45,8 +47,9 @@ unfolding contentRules sameDayRules orderRules
 passed s j c d o =
     record {
       content = c .1 .0;
-      date = c .1 .1 .0;
-      fresh = c .1 .1 .1 .0;
+      type = c .1 .1 .0;
+      date = c .1 .1 .1 .0;
+      fresh = c .1 .1 .1 .1 .0;
       own-day = d .1 .1 .1 .0;
       later = o .0;
       opened = o .1 .0;
@@ -110,14 +113,14 @@ opening-plain false y h = refl
 
 module _ (s : Submission) (j : Journal) (p : Passed s j) where
   pub good-body : (kind : ℕ) → isInRange (j .head) (entryFor kind s (takenFlag s j)) ≡ true
-  unfolding isInRange holds takes entryFor isBadContent isBadDate isOpeningIndicated indicatedIn
+  unfolding isInRange holds entryFor isBadContent isOtherType isBadDate isOpeningIndicated indicatedIn
   good-body kind =
       let c₁ = neither (not (isKnown (s .letter))) _ (p .content) in
       let c₂ = neither (ltb indicatorTrue (s .indicator)) _ (c₁ .1) in
       let c₃ = neither (ltb 1 (s .reread)) _ (c₂ .1) in
       together (ap not (neither (eqb (s .day) 0) _ (p .date) .0))
       (together (lt-ltb (s .value) (tenTo (j .head .dials)) (leb-false _ _ (c₃ .1)))
-      (together (not-false (isKnown (s .letter)) (c₁ .0))
+      (together (not-false (takes (j .head .profile) (s .letter)) (p .type))
       (together (le-leb (s .indicator) indicatorTrue (ltb-false _ _ (c₂ .0)))
       (together (taken-at-most (detected (j .head .dials) s (recentOf (standing (j .entries)))) (s .indicator))
       (opening-plain (isOpening (s .letter)) (eqb (s .indicator) indicatorNotSet) (p .plain))))))

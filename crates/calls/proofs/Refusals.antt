@@ -33,7 +33,7 @@ use Rattle.calls.proofs.Known.{local, enrol-number, submit-number, with
 -- ---- a refusal, in the form of any call's answer
 refusal-number : (call : Call) (number : ℕ) → numberOf (refusalOf call number) ≡ number
 unfolding numberOf refusalOf
-refusal-number (Enrol place dials capacity) number = refl
+refusal-number (Enrol place profile dials capacity) number = refl
 refusal-number (Submit place s) number = refl
 refusal-number (Withdraw place day value) number = refl
 refusal-number (ReportCall place) number = refl
@@ -41,7 +41,7 @@ refusal-number (Fold place) number = refl
 
 refusal-zeros : (call : Call) (number : ℕ) → HasZeros (refusalOf call number)
 unfolding HasZeros refusalOf
-refusal-zeros (Enrol place dials capacity) number = (refl, refl)
+refusal-zeros (Enrol place profile dials capacity) number = (refl, refl)
 refusal-zeros (Submit place s) number = (refl, refl)
 refusal-zeros (Withdraw place day value) number = (refl, refl)
 refusal-zeros (ReportCall place) number = (refl, refl, refl)
@@ -57,7 +57,7 @@ report-number area =
 
 act-zeros : (call : Call) (area : List ℕ) → (numberOf (act call area .reply) ≡ accepted → ⊥) → HasZeros (act call area .reply)
 unfolding act enrolIn submitIn withdrawIn reportIn foldIn HasZeros
-act-zeros (Enrol place dials capacity) area h = rw (ne-eqb _ accepted (λ e. h (enrol-number (plateOf dials capacity) area ∙ e))) (refl, refl)
+act-zeros (Enrol place profile dials capacity) area h = rw (ne-eqb _ accepted (λ e. h (enrol-number (plateOf profile dials capacity) area ∙ e))) (refl, refl)
 act-zeros (Submit place s) area h =
     rw (ne-eqb _ accepted (λ e. h (submit-number s area ∙ e)))
     (by-test (isVolumeQuery (firstBroken (submitChecks s area))) (λ q. rw q (refl, refl)) (λ q. rw q (refl, refl)))
@@ -96,7 +96,7 @@ module _ (s : Submission) (area : List ℕ) (size : length area ≡ areaBytes) (
 
 act-stores : (call : Call) (area : List ℕ) → length area ≡ areaBytes → isVolumeQuery (numberOf (act call area .reply)) ≡ true → Stores call area (act call area .area)
 unfolding act Stores enrolChecks withdrawChecks reportChecks foldChecks areaRules withdrawRules foldRules
-act-stores (Enrol place dials capacity) area size q = no-query (enrolChecks (plateOf dials capacity) area) refl refl (rw (enrol-number (plateOf dials capacity) area) at q)
+act-stores (Enrol place profile dials capacity) area size q = no-query (enrolChecks (plateOf profile dials capacity) area) refl refl (rw (enrol-number (plateOf profile dials capacity) area) at q)
 act-stores (Submit place s) area size q = stores-held s area size (rw (submit-number s area) at q)
 act-stores (Withdraw place day value) area size q = no-query (withdrawChecks day value area) refl refl (rw (withdraw-number day value area) at q)
 act-stores (ReportCall place) area size q = no-query (reportChecks area) refl refl (rw (report-number area) at q)

@@ -10,7 +10,9 @@ use lib.Dec.{eqb}
 use lib.ListN.{length, take, drop}
 use lib.Seq.{getD-drop}
 use Rattle.terms.specs.declared.entry.Entry.{Entry}
-use Rattle.terms.specs.Entry.{kindMeter, keepIf, those}
+use Rattle.terms.specs.Entry.{keepIf, those}
+use Rattle.terms.specs.Profile.{meterKind}
+use Rattle.terms.proofs.Profiles.{some-kind}
 use Rattle.register.specs.Area.{allZero}
 use Rattle.register.specs.declared.head.Head.{Head}
 use Rattle.register.specs.Bytes.{byteAt}
@@ -20,7 +22,7 @@ use Rattle.register.proofs.Back.{same-entry}
 use Rattle.journal.specs.Journal.{entriesTo, countFrom, entryCount, journalOf, isKept, kept, heldOf, isThere}
 use Rattle.journal.specs.Sound.{every, isRead, isPlate, isHead, isHeldRight, areSound, isSound}
 use Rattle.journal.proofs.Entries.{length-entries, those-at-most, count-at-most}
-use Rattle.calls.proofs.Bools.{both, together, by-test}
+use Rattle.calls.proofs.Bools.{both, together, apart, by-test}
 use Rattle.calls.proofs.Zeros.{zero-at}
 use Rattle.calls.proofs.Lists.{has-kind, rest-kept, kept-and-held}
 use Rattle.calls.proofs.Clauses.{Clauses, clauses-of}
@@ -135,9 +137,22 @@ module _ (a b : List ℕ) (n : ℕ) (h : take n a ≡ take n b) where
   same-entries zero l = refl
   same-entries (suc k) l = cc (same-entry a b n h (entryStart k) (omega arith), same-entries k (omega arith))
 
-pub plate-of : (a : List ℕ) → isHead a ≡ true → isPlate (headOf a) ≡ true
+-- ---- a good head: a plate after the kind of its profile
+pub good-head : (a : List ℕ) (head : Head) → headOf a ≡ head → byteAt a 0 ≡ meterKind (head .profile) → isPlate head ≡ true → isHead a ≡ true
 unfolding isHead
-plate-of a h = both (eqb (byteAt a 0) kindMeter) (isPlate (headOf a)) h .1
+good-head a head same kind plate = rw same (together (eq-eqb _ _ kind) plate)
+
+module _ (a : List ℕ) (good : isHead a ≡ true) where
+  parts : (eqb (byteAt a 0) (meterKind (headOf a .profile)) ≡ true) × (isPlate (headOf a) ≡ true)
+  unfolding isHead
+  parts = both _ (isPlate (headOf a)) good
+
+  pub plate-of : isPlate (headOf a) ≡ true
+  plate-of = parts .1
+
+  -- it is not all zero
+  pub head-there : byteAt a 0 ≡ 0 → ⊥
+  head-there none = apart (rw none at (parts .0)) (some-kind (headOf a .profile))
 
 -- an area with the same first byte and the same head has a good one where that is
 pub still-head : (a b : List ℕ) → headOf b ≡ headOf a → byteAt b 0 ≡ byteAt a 0 → isHead a ≡ true → isHead b ≡ true

@@ -30,7 +30,7 @@ report-number area zero = rw zero
 module _ (effects : Effects) (area : List ℕ) (size : length area ≡ areaBytes) (zero : allZero area ≡ true) where
   never {ℓ} : {X : Type ℓ} (call : Call) → isEnrolment call ≡ false → numberOf (act call area .reply) ≡ accepted → X
   unfolding act isEnrolment
-  never (Enrol place dials capacity) other h = absurd (let z : _≡_ {A = ℕ} 0 1 = cc in let f : ⊥ = omega arith in f)
+  never (Enrol place profile dials capacity) other h = absurd (let z : _≡_ {A = ℕ} 0 1 = cc in let f : ⊥ = omega arith in f)
   never (Submit place s) other h = absurd (effects .apart area zero (effects .submit place s area size h .was-sound))
   never (Withdraw place day value) other h = absurd (effects .apart area zero (effects .withdraw place day value area size h .was-sound))
   never (Fold place) other h = absurd (effects .apart area zero (effects .fold place area size h .was-sound))
@@ -38,7 +38,7 @@ module _ (effects : Effects) (area : List ℕ) (size : length area ≡ areaBytes
 
   -- what is not accepted leaves it
   stays : (call : Call) → (numberOf (act call area .reply) ≡ accepted → ⊥) → act call area .area ≡ area
-  stays (Enrol place dials capacity) h = effects .enrol-refused place dials capacity area h
+  stays (Enrol place profile dials capacity) h = effects .enrol-refused place profile dials capacity area h
   stays (Submit place s) h =
       by-test (mayChange (numberOf (act (Submit place s) area .reply)))
       (λ t. absurd (effects .apart area zero (effects .hold place s area size h t .was-sound)))

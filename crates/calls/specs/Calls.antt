@@ -9,6 +9,7 @@ use Rattle.terms.specs.declared.answer.Answer.{Answer}
 use Rattle.terms.specs.declared.entry.Entry.{Entry}
 use Rattle.terms.specs.declared.entry.Slot.{Slot}
 use Rattle.terms.specs.declared.entry.Slot.the-variants.{Read, Empty}
+use Rattle.terms.specs.declared.profile.Profile.{Profile}
 use Rattle.terms.specs.declared.submission.Submission.{Submission}
 use Rattle.terms.specs.Answer.{answer, acceptance, refusal, refusedReport}
 use Rattle.terms.specs.Entry.{kindStanding, kindWithdrawn, kindHeld, slotAt}
@@ -40,9 +41,10 @@ acted reply area = record { reply = reply; area = area }
 abbrev pub refused : ℕ → List ℕ → Acted
 refused number area = acted (Answered (refusal number)) area
 
--- ---- "Enrol (place, dials, capacity): writes kind 1."
-abbrev pub plateOf : ℕ → ℕ → Head
-plateOf dials capacity = record { dials = dials; capacity = capacity; carried = false; carry = noCarry }
+-- ---- "Enrol (place, dials, capacity): writes kind 1." 02, 4: of a pseudo meter it writes kind 7, which is all that the profile changes.
+abbrev pub plateOf : Profile → ℕ → ℕ → Head
+plateOf profile dials capacity =
+    record { profile = profile; dials = dials; capacity = capacity; carried = false; carry = noCarry }
 
 unfoldable pub enrolIn : Head → List ℕ → Acted
 enrolIn head area =
@@ -131,14 +133,14 @@ foldIn area =
 
 -- ---- a call on the area that it names
 unfoldable pub act : Call → List ℕ → Acted
-act (Enrol place dials capacity) area = enrolIn (plateOf dials capacity) area
+act (Enrol place profile dials capacity) area = enrolIn (plateOf profile dials capacity) area
 act (Submit place read) area = submitIn read area
 act (Withdraw place day value) area = withdrawIn day value area
 act (ReportCall place) area = reportIn area
 act (Fold place) area = foldIn area
 
 unfoldable pub placeOf : Call → ℕ
-placeOf (Enrol place dials capacity) = place
+placeOf (Enrol place profile dials capacity) = place
 placeOf (Submit place read) = place
 placeOf (Withdraw place day value) = place
 placeOf (ReportCall place) = place
@@ -146,7 +148,7 @@ placeOf (Fold place) = place
 
 -- a refusal, in the form of the call's answer
 unfoldable pub refusalOf : Call → ℕ → Reply
-refusalOf (Enrol place dials capacity) number = Answered (refusal number)
+refusalOf (Enrol place profile dials capacity) number = Answered (refusal number)
 refusalOf (Submit place read) number = Answered (refusal number)
 refusalOf (Withdraw place day value) number = Answered (refusal number)
 refusalOf (ReportCall place) number = Reported (refusedReport number)

@@ -9,10 +9,12 @@ use Rattle.terms.specs.declared.entry.Entry.{Entry}
 use Rattle.terms.specs.declared.entry.Slot.{Slot}
 use Rattle.terms.specs.declared.entry.Slot.the-variants.{Read, Empty}
 use Rattle.terms.specs.declared.entry.Recent.{Recent}
+use Rattle.terms.specs.declared.profile.Profile.{Profile}
 use Rattle.terms.specs.declared.submission.Submission.{Submission}
 use Rattle.terms.specs.Letter.{letterI, isKnown, isOpening, isFinal}
 use Rattle.terms.specs.Entry.{indicatorNotSet, indicatorTrue, slotAt, recentOf}
-use Rattle.terms.specs.Number.{repeat, missing, content, date, withdrawnRead, readAT, readEH, readBF, backDated, readDF, indicatorOnOpening, noOriginal, full, readEE, readEF, low, high, overCapacity, notStanding, notLast, enrolled, plate, noFold, oldestKept}
+use Rattle.terms.specs.Number.{repeat, missing, content, otherType, date, withdrawnRead, readAT, readEH, readBF, backDated, readDF, indicatorOnOpening, noOriginal, full, readEE, readEF, low, high, overCapacity, notStanding, notLast, enrolled, plate, noFold, oldestKept}
+use Rattle.terms.specs.Profile.{takes}
 use Rattle.terms.specs.Rule.{Rule, rule}
 use Rattle.rules.specs.declared.indicator.Indicated.{Indicated}
 use Rattle.rules.specs.Detection.{detected}
@@ -25,7 +27,7 @@ use Rattle.journal.specs.Journal.{Journal, journalOf, standing, withdrawn, kept
 use Rattle.journal.specs.Numbers.{areaRules}
 use Rattle.journal.specs.Sound.{any, exists, hasRead, isFinalRead, isPlate}
 
--- ---- 5 to 8: what is submitted
+-- ---- 5 to 8, and 29: what is submitted
 -- "value 4,294,967,295, the mark for unpopulated"
 abbrev pub unpopulated : ℕ
 unpopulated = 4294967295
@@ -38,6 +40,10 @@ unfoldable pub isBadContent : ℕ → Submission → Bool
 isBadContent n s =
     not (isKnown (s .letter))
     || (ltb indicatorTrue (s .indicator) || (ltb 1 (s .reread) || leb (tenTo n) (s .value)))
+
+-- 02, 4: 29, "another type on a pseudo meter"; an ordinary one takes every type that 6 lets pass
+unfoldable pub isOtherType : Profile → Submission → Bool
+isOtherType profile s = not (takes profile (s .letter))
 
 -- "read day 0 or after the submission day"
 unfoldable pub isBadDate : Submission → Bool
@@ -147,11 +153,12 @@ module _ (s : Submission) (j : Journal) where
   abbrev pub takenFlag : ℕ
   takenFlag = indicatedFlag (indicatedIn s j)
 
-  -- 5 to 8
+  -- 5 and 6; 02, 4: "29, .. after 6"; 7 and 8
   unfoldable pub contentRules : List Rule
   contentRules =
       rule missing (isMissing s)
       ∷ rule content (isBadContent (j .head .dials) s)
+      ∷ rule otherType (isOtherType (j .head .profile) s)
       ∷ rule date (isBadDate s)
       ∷ rule withdrawnRead (isWithdrawnRead s (j .entries))
       ∷ []

@@ -34,7 +34,7 @@ pub record StoresHeld (s : Submission) (before after : List ℕ) : Type 0 where
 -- only a submission is answered 19 or 20
 unfoldable pub Stores : Call → List ℕ → List ℕ → Type 0
 Stores (Submit place read) before after = StoresHeld read before after
-Stores (Enrol place dials capacity) before after = ⊥
+Stores (Enrol place profile dials capacity) before after = ⊥
 Stores (Withdraw place day value) before after = ⊥
 Stores (ReportCall place) before after = ⊥
 Stores (Fold place) before after = ⊥

@@ -6,6 +6,7 @@ use mathlib.Core.List.{List, [], _∷_, _++_}
 use Prim.Native.Nat.{ℕ}
 use lib.IntN.{ℤ, pos, negℤ}
 use Rattle.terms.specs.declared.entry.Entry.{Entry}
+use Rattle.terms.specs.declared.profile.Profile.the-variants.{Ordinary}
 use Rattle.terms.specs.declared.submission.Submission.{Submission}
 use Rattle.terms.specs.Answer.{answer, refusal, reported, refusedReport}
 use Rattle.terms.specs.Entry.{kindStanding, kindWithdrawn, kindHeld, indicatorNotSet, indicatorTrue}
@@ -37,7 +38,7 @@ abbrev pub read : ℕ → ℕ → Submission
 read day value = record { submitted = 1600; day = day; value = value; letter = letterC; indicator = indicatorTrue; reread = 0 }
 
 abbrev pub enrolled : Exchange
-enrolled = exchange (Enrol meter 4 5000) (Answered (answer accepted 0 (pos 0)))
+enrolled = exchange (Enrol meter Ordinary 4 5000) (Answered (answer accepted 0 (pos 0)))
 
 abbrev pub submitted : ℕ → ℕ → ℕ → ℤ → Exchange
 submitted day value flag advance = exchange (Submit meter (read day value)) (Answered (answer accepted flag advance))
@@ -100,7 +101,7 @@ flaggedEntry kind day value =
     record { kind = kind; day = day; value = value; letter = letterC; indicator = indicatorTrue; flag = 1 }
 
 abbrev pub plate : Bool → Carry → Head
-plate carried carry = record { dials = 4; capacity = 5000; carried = carried; carry = carry }
+plate carried carry = record { profile = Ordinary; dials = 4; capacity = 5000; carried = carried; carry = carry }
 
 -- five standing reads, three of them flagged; withdrawn ones before the oldest that is kept, on its day and after it; and a held one
 abbrev pub full : Journal

@@ -35,6 +35,7 @@ carryAfter j =
 unfoldable pub headAfter : Journal → Head
 headAfter j =
     record {
+      profile = j .head .profile;
       dials = j .head .dials;
       capacity = j .head .capacity;
       carried = true;

@@ -55,7 +55,7 @@ flagOf a = cond (eqb (a .flag) 1) (pos 1) (pos 0)
 
 -- "An accepted submission puts its day and value at the end. An accepted withdrawal takes out the read of its day and value."
 unfoldable pub entered : Call → Reply → Ledger → Ledger
-entered (Enrol place dials capacity) reply l =
+entered (Enrol place profile dials capacity) reply l =
     record {
       standing = l .standing;
       advances = l .advances;
@@ -115,7 +115,7 @@ hasAccepted meter (x ∷ xs) = isAccepted meter x || hasAccepted meter xs
 
 -- "the meter's accepted enrolment" is among them
 unfoldable pub isEnrolment : Call → Bool
-isEnrolment (Enrol place dials capacity) = true
+isEnrolment (Enrol place profile dials capacity) = true
 isEnrolment (Submit place read) = false
 isEnrolment (Withdraw place day value) = false
 isEnrolment (ReportCall place) = false

@@ -8,3 +8,4 @@ pub mod Ledger
 pub mod DemandThree
 pub mod FoldKeeps
 pub mod Examples
+pub mod ProfileExamples

@@ -1,11 +1,13 @@
 // A call as a value, as a day sheet and a list of calls hold it, and the reply to one.
 use terms::answer::Answer;
 use terms::answer::Report;
+use terms::profile::Profile;
 use terms::submission::Submission;
 
 pub enum Call {
     Enrol {
         place: u16,
+        profile: Profile,
         dials: u8,
         capacity: u32,
     },

@@ -4,6 +4,7 @@ ghost use Rattle.calls.specs.DemandThree.{DemandThree};
 ghost use Rattle.calls.specs.Examples.{ExamplesHold};
 ghost use Rattle.calls.specs.FoldKeeps.{FoldsKeepReports, WithdrawnStayOut};
 ghost use Rattle.calls.specs.Kept.{CallsKeepAreas};
+ghost use Rattle.calls.specs.ProfileExamples.{ProfileExamplesHold};
 
 // No call damages an area: a register whose areas are all zero or sound stays so.
 pub fn calls_keep_areas()
@@ -33,4 +34,9 @@ pub fn withdrawn_stay_out()
 // Examples of what the definitions of demand 3 and of a fold mean.
 pub fn examples_hold()
     ensures { λ _. ⌜ ExamplesHold ⌝ }
+{}
+
+// Examples of what a meter's profile means: its kind, the types that it takes, and 29 among the numbers.
+pub fn profile_examples_hold()
+    ensures { λ _. ⌜ ProfileExamplesHold ⌝ }
 {}

@@ -67,8 +67,10 @@ pub(crate) fn head_after(area: &[u8], t: Summary, kept: Recent) -> Head
     ensures { λ r. ⌜ r ≡ headAfter (journalOf (now (area .entry))) ⌝ }
 {
     let head = t.head;
+    let profile = head.profile;
     let carry = carry_after(area, t, kept);
     Head {
+        profile,
         dials: head.dials,
         capacity: head.capacity,
         carried: true,

@@ -8,8 +8,9 @@ use Rattle.arithmetic.specs.Powers.{tenTo}
 use Rattle.terms.specs.declared.entry.Entry.{Entry}
 use Rattle.terms.specs.declared.entry.Slot.{Slot}
 use Rattle.terms.specs.declared.entry.Slot.the-variants.{Read, Empty}
-use Rattle.terms.specs.Letter.{isKnown, isOpening, isFinal, isHoldable}
-use Rattle.terms.specs.Entry.{kindMeter, indicatorNotSet, indicatorTrue, isStanding, isWithdrawn, isHeld}
+use Rattle.terms.specs.Letter.{isOpening, isFinal, isHoldable}
+use Rattle.terms.specs.Entry.{indicatorNotSet, indicatorTrue, isStanding, isWithdrawn, isHeld}
+use Rattle.terms.specs.Profile.{meterKind, takes}
 use Rattle.register.specs.Area.{allZero}
 use Rattle.register.specs.Bytes.{byteAt}
 use Rattle.register.specs.declared.head.Head.{Head}
@@ -36,17 +37,14 @@ mostDials = 9
 unfoldable pub isPlate : Head → Bool
 isPlate head = leb leastDials (head .dials) && (leb (head .dials) mostDials && not (eqb (head .capacity) 0))
 
+-- 02, 4: "Kind 7 stands where kind 1 would, same body"
 unfoldable pub isHead : List ℕ → Bool
-isHead area = eqb (byteAt area 0) kindMeter && isPlate (headOf area)
+isHead area = eqb (byteAt area 0) (meterKind (headOf area .profile)) && isPlate (headOf area)
 
--- ---- what a meter asks of its reads
+-- ---- what a meter asks of its reads, with the types that its profile takes
 -- what its dials hold: "value (4 bytes, below 10^n)"
 unfoldable pub holds : Head → ℕ → Bool
 holds head value = ltb value (tenTo (head .dials))
-
--- the types that it takes
-unfoldable pub takes : Head → ℕ → Bool
-takes head letter = isKnown letter
 
 -- how its first standing read opens: "The first standing read is type I or O with flag 0"; 02, 2: "in a carried journal the first standing
 -- read may have any type and flag"
@@ -55,12 +53,13 @@ opens head s = head .carried || isOpening (s .letter) && eqb (s .flag) 0
 
 -- ---- one entry: each field in its range
 -- "Kinds 2 standing, 3 withdrawn, 4 held, one body: day (2 bytes, 1 to 65,535; ..), value (4 bytes, below 10^n), type (ASCII letter),
--- indicator (1 byte: 0 not set, 1 false, 2 true), flag (1 byte, 1 if rollover, else 0)." "I and O have indicator 0 wherever they appear."
+-- indicator (1 byte: 0 not set, 1 false, 2 true), flag (1 byte, 1 if rollover, else 0)." "I and O have indicator 0 wherever they appear." 02, 4:
+-- "a journal holding another type there is damaged".
 unfoldable pub isInRange : Head → Entry → Bool
 isInRange head e =
     not (eqb (e .day) 0)
     && (holds head (e .value)
-    && (takes head (e .letter)
+    && (takes (head .profile) (e .letter)
     && (leb (e .indicator) indicatorTrue
     && (leb (e .flag) 1 && (not (isOpening (e .letter)) || eqb (e .indicator) indicatorNotSet)))))
 

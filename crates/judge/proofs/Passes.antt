@@ -9,7 +9,7 @@ use borrow.Author.Tests.{eqb-true, ne-eqb, lt-ltb}
 use lib.Dec.{eqb}
 use lib.ListN.{length}
 use Rattle.terms.specs.declared.entry.Entry.{Entry}
-use Rattle.terms.specs.Letter.{letterI, letterO, isKnown, isOpening, isFinal}
+use Rattle.terms.specs.Letter.{letterI, letterO, isOpening, isFinal}
 use Rattle.terms.specs.Entry.{isStanding, isHeld, those, slotAt}
 use Rattle.register.specs.declared.head.Head.{Head}
 use Rattle.register.specs.Bytes.{byteAt}
@@ -20,7 +20,7 @@ use Rattle.judge.specs.declared.run.Run.{Run}
 use Rattle.register.specs.Head.{mostEntries}
 use Rattle.register.proofs.Body.{head-room}
 use Rattle.journal.specs.Journal.{entriesTo, countFrom, standing, withdrawn, heldOf, isThere, dayOf}
-use Rattle.journal.specs.Sound.{every, any, isFinalRead, holds, takes, opens, isInRange, isRead, daysRise, opensRight, hasOneFinal, isHeldRight, areInOrder, areApart}
+use Rattle.journal.specs.Sound.{every, any, isFinalRead, holds, opens, isInRange, isRead, daysRise, opensRight, hasOneFinal, isHeldRight, areInOrder, areApart}
 use Rattle.journal.specs.Inner.Loops.{standsBy, followsBy}
 use Rattle.judge.specs.Inner.Index.{crowded}
 use Rattle.judge.specs.Inner.Run.{runOf}
@@ -166,23 +166,24 @@ start-goes most body =
     rw e
 
 -- ---- the read that opens a journal
-opening-is : (l : ℕ) → isOpening l ≡ true → (isKnown l ≡ true) × (isFinal l ≡ false)
-unfolding isOpening isKnown isFinal
-opening-is l h = cases (eqb l letterI) refl where
-  cases : (b : Bool) → eqb l letterI ≡ b → (isKnown l ≡ true) × (isFinal l ≡ false)
-  cases true e = rw (eqb-true l letterI e) (refl, refl)
-  cases false e = rw (eqb-true l letterO (rw e at h)) (refl, refl)
+opening-unending : (l : ℕ) → isOpening l ≡ true → isFinal l ≡ false
+unfolding isOpening isFinal
+opening-unending l h = cases (eqb l letterI) refl where
+  cases : (b : Bool) → eqb l letterI ≡ b → isFinal l ≡ false
+  cases true e = rw (eqb-true l letterI e)
+  cases false e = rw (eqb-true l letterO (rw e at h))
 
-module _ {head : Head} {l : Limits} {e : Entry} (limits : IsLimits head l) (first : First (l .limit) e) where
+module _ {head : Head} {l : Limits} {e : Entry} (limits : IsLimits head l) (first : First l e) where
   read-is : isRead head e ≡ true
-  unfolding isRead isInRange holds takes
+  unfolding isRead isInRange holds
   read-is =
       rw (
         first .stands,
         ne-eqb (e .day) 0 (first .dated),
         ← limits .limit,
         lt-ltb (e .value) (l .limit) (first .small),
-        opening-is (e .letter) (first .opening) .0,
+        ← limits .head-is,
+        first .taken,
         first .opening,
         first .indicator,
         first .flag,
@@ -190,7 +191,7 @@ module _ {head : Head} {l : Limits} {e : Entry} (limits : IsLimits head l) (firs
 
   first-follows : followsBy head e false 0 false false ≡ true
   unfolding followsBy standsBy opens
-  first-follows = rw (read-is, first .stands, first .opening, first .flag, or-true, opening-is (e .letter) (first .opening) .1)
+  first-follows = rw (read-is, first .stands, first .opening, first .flag, or-true, opening-unending (e .letter) (first .opening))
 
   first-open : IsOpen head false true (e ∷ [])
   unfolding areInOrder areApart every any those heldOf isThere slotAt dayOf daysRise opensRight hasOneFinal isHeldRight
@@ -199,7 +200,7 @@ module _ {head : Head} {l : Limits} {e : Entry} (limits : IsLimits head l) (firs
         ordered = rw (in-order-more head e [], by-numbers, first-follows);
         stands = rw (first .stands);
         unheld = rw (stands-unheld e (first .stands));
-        ended-is = rw (first .stands, opening-is (e .letter) (first .opening) .1);
+        ended-is = rw (first .stands, opening-unending (e .letter) (first .opening));
         apart = λ c. rw (stands-unwithdrawn e (first .stands));
       }
 
@@ -233,7 +234,7 @@ module _ (body : List ℕ) (l : Limits) where
           let some : length (standing (e ∷ [])) ≡ 1 = rw s in
           omega arith
 
-    pub starts-first : {opened run : Run} → First (l .limit) e → 0 < l .most → opened .count ≡ 1 → RunsTo body l opened run → (withdrawn (entriesTo (opened .count) body) ≡ [] → withdrawn (entriesTo (run .count) body) ≡ []) → Starts body l (record { run = run; ordered = true; held = false; ended = false; apart = true })
+    pub starts-first : {opened run : Run} → First l e → 0 < l .most → opened .count ≡ 1 → RunsTo body l opened run → (withdrawn (entriesTo (opened .count) body) ≡ [] → withdrawn (entriesTo (run .count) body) ≡ []) → Starts body l (record { run = run; ordered = true; held = false; ended = false; apart = true })
     unfolding entriesTo entryAt isStanding those
     starts-first {opened} {run} first some one runs none =
         let kind : byteAt body (entryStart 0) ≡ 0 → ⊥ = λ z. (let k : e .kind ≡ 2 = eqb-true _ _ (first .stands) in let n : e .kind ≡ 0 = rw read z in omega arith) in

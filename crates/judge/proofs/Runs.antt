@@ -95,7 +95,7 @@ unfolding isWithdrawn isHeld
 withdrawn-unheld e h = rw (eqb-true (e .kind) kindWithdrawn h)
 
 module _ {head : Head} {l : Limits} {last : ℕ} {e : Entry} (is : IsLimits head l) (b : PlainBody l last e) where
-  letter-is : PlainLetter head (e .letter)
+  letter-is : PlainLetter (head .profile) (e .letter)
   letter-is = is .letters (e .letter) (b .letter)
 
   range-is : isInRange head e ≡ true

@@ -28,7 +28,7 @@ use register::area::Layout;
 use register::head::Head;
 use register::head::head_bytes;
 use register::zeros::is_zero_from;
-use terms::entry::Kind;
+use terms::profile::meter_kind;
 
 // Counts over a journal's entries.
 pub struct Counts {
@@ -118,7 +118,8 @@ fn is_head(area: &[u8], head: Head) -> bool
     requires { ⌜ (length (now area) ≡ areaBytes) × (head ≡ headOf (now area)) ⌝ }
     ensures { λ r. ⌜ r ≡ isHead (now (area .entry)) ⌝ }
 {
-    (area[0] == Kind::METER) & is_plate(head)
+    let profile = head.profile;
+    (area[0] == meter_kind(profile)) & is_plate(head)
 }
 
 // What was found, where it is no sound journal.

@@ -1,11 +1,12 @@
 // What the loops over entries need of a meter.
 ghost use mathlib.Core.Path.{_≡_};
 ghost use Rattle.judge.specs.Inner.Marks.{hasLetter};
-ghost use Rattle.judge.specs.Inner.Plain.{IsLimits};
+ghost use Rattle.judge.specs.Inner.Plain.{plainLetters, IsLimits};
 use crate::marks::is_marked;
 use arithmetic::powers::power;
 use register::head::Head;
 use register::head::most_entries;
+use terms::profile::Profile;
 
 pub struct Limits {
     // A bit for each letter from 64 to 127: those that the meter takes and that neither open a journal nor end one.
@@ -14,8 +15,7 @@ pub struct Limits {
     pub limit: u32,
     // The most entries that may follow the head.
     pub most: u8,
-    // A carry follows the meter's entry.
-    pub carried: bool,
+    pub head: Head,
 }
 
 struct Letters;
@@ -23,16 +23,32 @@ struct Letters;
 impl Letters {
     // C, E, R, S, T, U, X and Y.
     const PLAIN: u64 = 54263848;
+
+    // A pseudo meter's reads open its journal or end it.
+    const NONE: u64 = 0;
+}
+
+fn plain_letters(profile: Profile) -> u64
+    ensures { λ r. ⌜ r ≡ plainLetters profile ⌝ }
+{
+    match profile {
+        Profile::Ordinary => Letters::PLAIN,
+        Profile::Pseudo => Letters::NONE,
+    }
 }
 
 pub(crate) fn limits_of(head: Head) -> Limits
     ensures { λ r. ⌜ IsLimits head r ⌝ }
 {
+    let profile = head.profile;
+    let letters = plain_letters(profile);
+    let limit = power(head.dials) as u32;
+    let most = most_entries(head);
     Limits {
-        letters: Letters::PLAIN,
-        limit: power(head.dials) as u32,
-        most: most_entries(head),
-        carried: head.carried,
+        letters,
+        limit,
+        most,
+        head,
     }
 }
 

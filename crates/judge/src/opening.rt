@@ -18,6 +18,7 @@ use journal::order::is_standing;
 use register::head::HeadSize;
 use terms::entry::Entry;
 use terms::letter::is_opening;
+use terms::profile::takes;
 
 fn start_pass() -> Pass
     ensures { λ r. ⌜ (r .run ≡ runOf []) × ((head : Head) → r ≡ passOf head (r .apart) []) ⌝ }
@@ -33,8 +34,8 @@ fn start_pass() -> Pass
 }
 
 // A read that opens a journal, with no indicator: never yes wrongly. Indicator and flag are tested together.
-fn is_first(limit: u32, e: Entry) -> bool
-    ensures { λ r. ⌜ (r ≡ true → First limit e) ⌝ }
+fn is_first(limits: Limits, e: Entry) -> bool
+    ensures { λ r. ⌜ (r ≡ true → First limits e) ⌝ }
 {
     if !is_standing(e) {
         return false;
@@ -42,10 +43,15 @@ fn is_first(limit: u32, e: Entry) -> bool
     if e.day == 0 {
         return false;
     }
-    if limit <= e.value {
+    if limits.limit <= e.value {
         return false;
     }
     if !is_opening(e.letter) {
+        return false;
+    }
+    let head = limits.head;
+    let profile = head.profile;
+    if !takes(profile, e.letter) {
         return false;
     }
     let indicator = e.indicator as u16;
@@ -64,7 +70,7 @@ pub(crate) fn open_over(body: &[u8], limits: Limits) -> Pass
         return start;
     }
     let e = entry_at(body, 0);
-    if !is_first(limits.limit, e) {
+    if !is_first(limits, e) {
         return start;
     }
     let opened = stand(start.run, 0, e);

@@ -50,8 +50,8 @@ fn pass_with(pass: Pass, limits: Limits, clear: bool, e: Entry) -> Pass
 {
     let run = pass.run;
     let follows = may_follow(
+        limits.head,
         limits.limit,
-        limits.carried,
         e,
         run.standing != 0,
         run.day,

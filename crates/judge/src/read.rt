@@ -14,6 +14,7 @@ use register::head::HeadSize;
 use register::head::no_carry;
 use terms::entry::Entry;
 use terms::entry::Kind;
+use terms::profile::profile_of;
 
 pub(crate) fn word_at(bytes: &[u8], i: usize) -> u16
     requires { ⌜ i + 2 ≤ length (now bytes) ⌝ }
@@ -56,12 +57,16 @@ pub(crate) fn head_at(area: &[u8]) -> Head
     requires { ⌜ length (now area) ≡ areaBytes ⌝ }
     ensures { λ r. ⌜ r ≡ headOf (now (area .entry)) ⌝ }
 {
-    let carry = carry_at(area);
+    let profile = profile_of(area[0]);
+    let dials = area[1];
     let capacity = long_at(area, 2);
+    let carry = carry_at(area);
+    let after = area[HeadSize::METER_BYTES];
     Head {
-        dials: area[1],
+        profile,
+        dials,
         capacity,
-        carried: area[HeadSize::METER_BYTES] == Kind::CARRY,
+        carried: after == Kind::CARRY,
         carry,
     }
 }

@@ -1,4 +1,4 @@
-// Enrol: a meter's plate into an area that is all zero.
+// Enrol: a meter's plate, of either profile, into an area that is all zero.
 ghost use mathlib.Core.Path.{_≡_};
 ghost use Rattle.terms.specs.Rule.{firstBroken};
 ghost use Rattle.calls.specs.Checks.{enrolChecks};
@@ -17,12 +17,14 @@ use terms::answer::Answer;
 use terms::answer::accept;
 use terms::answer::refuse;
 use terms::number::Number;
+use terms::profile::Profile;
 
 // The head that an enrolment writes.
-fn plate(dials: u8, capacity: u32) -> Head
-    ensures { λ r. ⌜ r ≡ plateOf dials capacity ⌝ }
+fn plate(profile: Profile, dials: u8, capacity: u32) -> Head
+    ensures { λ r. ⌜ r ≡ plateOf profile dials capacity ⌝ }
 {
     Head {
+        profile,
         dials,
         capacity,
         carried: false,
@@ -44,10 +46,10 @@ fn check_enrolment(area: &[u8], head: Head) -> u8
 }
 
 // The call on the area that it names.
-fn enrol_in(area: &mut [u8], dials: u8, capacity: u32) -> Answer
-    ensures { λ r. ⌜ acted (Reply.Answered r) (now (area .exit)) ≡ enrolIn (plateOf dials capacity) (now (area .entry)) ⌝ }
+fn enrol_in(area: &mut [u8], profile: Profile, dials: u8, capacity: u32) -> Answer
+    ensures { λ r. ⌜ acted (Reply.Answered r) (now (area .exit)) ≡ enrolIn (plateOf profile dials capacity) (now (area .entry)) ⌝ }
 {
-    let head = plate(dials, capacity);
+    let head = plate(profile, dials, capacity);
     let number = check_enrolment(area, head);
     if number != Number::ACCEPTED {
         return refuse(number);
@@ -56,14 +58,14 @@ fn enrol_in(area: &mut [u8], dials: u8, capacity: u32) -> Answer
     accept()
 }
 
-pub fn enrol(register: &mut [u8], place: u16, dials: u8, capacity: u32) -> Answer
-    ensures { λ r. ⌜ done (Reply.Answered r) (now (register .exit)) ≡ step (Call.Enrol place dials capacity) (now (register .entry)) ⌝ }
+pub fn enrol(register: &mut [u8], place: u16, profile: Profile, dials: u8, capacity: u32) -> Answer
+    ensures { λ r. ⌜ done (Reply.Answered r) (now (register .exit)) ≡ step (Call.Enrol place profile dials capacity) (now (register .entry)) ⌝ }
 {
     match locate(register, place) {
         Located::Refused(number) => refuse(number),
         Located::At(start) => {
             let end = start + Layout::AREA_BYTES;
-            enrol_in(&mut register[start..end], dials, capacity)
+            enrol_in(&mut register[start..end], profile, dials, capacity)
         }
     }
 }

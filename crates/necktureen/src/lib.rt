@@ -8,6 +8,7 @@ ghost use Rattle.sheet.specs.Play.{Played};
 use calendar::date::Date;
 use calls::call::Call;
 use calls::call::Reply;
+use terms::profile::Profile;
 use terms::submission::Submission;
 
 #[no_mangle]
@@ -19,9 +20,28 @@ pub extern "C" fn necktureen_enrol(
     flag: &mut u8,
     advance: &mut i64,
 ) -> u8
-    ensures { λ r. ⌜ done (Reply.Answered (answer r (now (flag .exit)) (now (advance .exit)))) (now (register .exit)) ≡ step (Call.Enrol place dials capacity) (now (register .entry)) ⌝ }
+    ensures { λ r. ⌜ done (Reply.Answered (answer r (now (flag .exit)) (now (advance .exit)))) (now (register .exit)) ≡ step (Call.Enrol place Profile.Ordinary dials capacity) (now (register .entry)) ⌝ }
 {
-    let a = meter::enrol::enrol(register, place, dials, capacity);
+    let a = meter::enrol::enrol(register, place, Profile::Ordinary, dials, capacity);
+    let moved = a.advance;
+    *flag = a.flag;
+    *advance = moved;
+    a.number
+}
+
+// Enrols a pseudo meter, which takes types I and F only.
+#[no_mangle]
+pub extern "C" fn necktureen_enrol_pseudo(
+    register: &mut [u8],
+    place: u16,
+    dials: u8,
+    capacity: u32,
+    flag: &mut u8,
+    advance: &mut i64,
+) -> u8
+    ensures { λ r. ⌜ done (Reply.Answered (answer r (now (flag .exit)) (now (advance .exit)))) (now (register .exit)) ≡ step (Call.Enrol place Profile.Pseudo dials capacity) (now (register .entry)) ⌝ }
+{
+    let a = meter::enrol::enrol(register, place, Profile::Pseudo, dials, capacity);
     let moved = a.advance;
     *flag = a.flag;
     *advance = moved;

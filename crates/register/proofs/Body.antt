@@ -11,6 +11,7 @@ use lib.Dec.{eqb}
 use lib.ListN.{length, set, take, drop, length-drop}
 use lib.Seq.{take-all, take-set-le, drop-set-add, getD-set-same, getD-set-other, set-out}
 use Rattle.terms.specs.Entry.{kindCarry}
+use Rattle.terms.specs.Profile.{profileOf}
 use Rattle.terms.specs.declared.entry.Entry.{Entry}
 use Rattle.register.specs.declared.head.Head.{Head}
 use Rattle.register.specs.Area.{areaBytes}
@@ -92,10 +93,11 @@ module _ (a b : List ℕ) (h : take (headBytes (headOf a)) b ≡ take (headBytes
   unfolding headOf
   same-head =
       let n = head-least (headOf a) in
+      let profile = ap profileOf (same-byte b a (headBytes (headOf a)) h 0 (omega (arith, n))) in
       let dials = same-byte b a (headBytes (headOf a)) h 1 (omega (arith, n)) in
       let capacity = same-long b a (headBytes (headOf a)) h 2 (omega (arith, n)) in
       let carry = ap (λ (t : Bool). cond t (carryAt b meterBytes) noCarry) mark ∙ carry-alike (isCarryAt a meterBytes) refl in
-      λ t. record { dials = dials t; capacity = capacity t; carried = mark t; carry = carry t }
+      λ t. record { profile = profile t; dials = dials t; capacity = capacity t; carried = mark t; carry = carry t }
 
   pub same-kind : byteAt b 0 ≡ byteAt a 0
   same-kind = same-byte b a (headBytes (headOf a)) h 0 (omega (arith, head-least (headOf a)))

@@ -8,7 +8,9 @@ use borrow.Author.Tests.{eq-eqb}
 use lib.Dec.{eqb}
 use lib.ListN.{length, set, take, drop, length-set}
 use lib.Seq.{getD-set-same, getD-set-other, take-set-le, drop-set-lt}
-use Rattle.terms.specs.Entry.{kindMeter, kindCarry}
+use Rattle.terms.specs.Entry.{kindCarry}
+use Rattle.terms.specs.Profile.{meterKind, profileOf}
+use Rattle.terms.proofs.Profiles.{same-profile}
 use Rattle.register.specs.Bytes.{byteAt, longAt, putWord, putLong}
 use Rattle.register.specs.declared.head.Carry.{Carry}
 use Rattle.register.specs.declared.head.Head.{Head}
@@ -31,22 +33,22 @@ module _ (a : List ℕ) (head : Head) where
 
   module _ (room : meterBytes ≤ length a) where
     abbrev front : List ℕ
-    front = set (set a 0 kindMeter) 1 (head .dials)
+    front = set (set a 0 (meterKind (head .profile))) 1 (head .dials)
 
     below : take 2 (putMeter a head) ≡ take 2 front
     unfolding putMeter
     below = long-below front 2 (head .capacity) 2 (omega arith)
 
-    meter-kind : byteAt (putMeter a head) 0 ≡ kindMeter
+    meter-kind : byteAt (putMeter a head) 0 ≡ meterKind (head .profile)
     meter-kind =
         same-byte (putMeter a head) front 2 below 0 (omega arith)
-        ∙ getD-set-other (set a 0 kindMeter) 1 0 (head .dials) 0 (omega arith)
-        ∙ getD-set-same a 0 kindMeter 0 (omega arith)
+        ∙ getD-set-other (set a 0 (meterKind (head .profile))) 1 0 (head .dials) 0 (omega arith)
+        ∙ getD-set-same a 0 (meterKind (head .profile)) 0 (omega arith)
 
     meter-dials : byteAt (putMeter a head) 1 ≡ head .dials
     meter-dials =
         same-byte (putMeter a head) front 2 below 1 (omega arith)
-        ∙ getD-set-same (set a 0 kindMeter) 1 (head .dials) 0 (simp length-set (omega arith))
+        ∙ getD-set-same (set a 0 (meterKind (head .profile))) 1 (head .dials) 0 (simp length-set (omega arith))
 
     meter-capacity : longAt (putMeter a head) 2 ≡ head .capacity
     unfolding putMeter
@@ -159,7 +161,7 @@ module _ (a : List ℕ) (head : Head) where
         by-carry true = carry-below (putMeter a head) meterBytes (head .carry) meterBytes (omega arith)
         by-carry false = refl
 
-    pub head-kind : byteAt (putHead a head) 0 ≡ kindMeter
+    pub head-kind : byteAt (putHead a head) 0 ≡ meterKind (head .profile)
     head-kind = same-byte (putHead a head) (putMeter a head) meterBytes meter-stays 0 (omega arith) ∙ meter-kind a head meter-fits
 
     module _ (b : Bool) (is : head .carried ≡ b) where
@@ -193,10 +195,11 @@ module _ (a : List ℕ) (head : Head) where
     pub head-same : Bare → headOf (putHead a head) ≡ head
     unfolding headOf
     head-same bare =
+        let profile = ap profileOf head-kind ∙ same-profile (head .profile) in
         let dials = same-byte (putHead a head) (putMeter a head) meterBytes meter-stays 1 (omega arith) ∙ meter-dials a head meter-fits in
         let capacity = same-long (putHead a head) (putMeter a head) meterBytes meter-stays 2 (omega arith) ∙ meter-capacity a head meter-fits in
         let carry = carry-is bare (head .carried) refl in
-        λ t. record { dials = dials t; capacity = capacity t; carried = (carry .0) t; carry = (carry .1) t }
+        λ t. record { profile = profile t; dials = dials t; capacity = capacity t; carried = (carry .0) t; carry = (carry .1) t }
 
 -- ---- a head that is read: without a carry it counts nothing
 pub bare-carry : (a : List ℕ) → headOf a .carried ≡ false → headOf a .carry ≡ noCarry

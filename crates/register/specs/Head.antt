@@ -4,13 +4,15 @@ use mathlib.Core.List.{List}
 use Prim.Native.Nat.{ℕ, _+_}
 use lib.Dec.{eqb}
 use lib.ListN.{set, drop}
-use Rattle.terms.specs.Entry.{kindMeter, kindCarry}
+use Rattle.terms.specs.Entry.{kindCarry}
+use Rattle.terms.specs.Profile.{meterKind, profileOf}
 use Rattle.register.specs.declared.head.Carry.{Carry}
 use Rattle.register.specs.declared.head.Head.{Head}
 use Rattle.register.specs.Bytes.{byteAt, wordAt, longAt, putWord, putLong}
 use Rattle.register.specs.Entries.{entryStart}
 
--- "Kind 1, meter, first and only first: dials n (1 byte, 4 to 9), capacity in m³ a year (4 bytes, at least 1)."
+-- "Kind 1, meter, first and only first: dials n (1 byte, 4 to 9), capacity in m³ a year (4 bytes, at least 1)." 02, 4: "Kind 7 stands where
+-- kind 1 would, same body".
 abbrev pub meterBytes : ℕ
 meterBytes = 6
 
@@ -31,6 +33,7 @@ noCarry = record { first = 0; folded = 0; flagged = 0 }
 unfoldable pub headOf : List ℕ → Head
 headOf area =
     record {
+      profile = profileOf (byteAt area 0);
       dials = byteAt area 1;
       capacity = longAt area 2;
       carried = isCarryAt area meterBytes;
@@ -39,7 +42,7 @@ headOf area =
 
 -- ---- writing one
 unfoldable pub putMeter : List ℕ → Head → List ℕ
-putMeter area head = putLong (set (set area 0 kindMeter) 1 (head .dials)) 2 (head .capacity)
+putMeter area head = putLong (set (set area 0 (meterKind (head .profile))) 1 (head .dials)) 2 (head .capacity)
 
 unfoldable pub putCarry : List ℕ → ℕ → Carry → List ℕ
 putCarry area i carry =

@@ -2,6 +2,7 @@
 ghost use mathlib.Core.Path.{_≡_};
 ghost use Rattle.register.specs.Head.{noCarry, headBytes, mostEntries, offsetAfter};
 use crate::area::Layout;
+use terms::profile::Profile;
 
 // What a carry says of the reads that were folded.
 pub struct Carry {
@@ -14,6 +15,7 @@ pub struct Carry {
 
 // What the meter's entry says, and the carry after it.
 pub struct Head {
+    pub profile: Profile,
     pub dials: u8,
     // Cubic metres a year.
     pub capacity: u32,

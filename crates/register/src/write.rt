@@ -10,6 +10,7 @@ use crate::head::Head;
 use crate::head::HeadSize;
 use terms::entry::Entry;
 use terms::entry::Kind;
+use terms::profile::meter_kind;
 
 pub fn put_byte(bytes: &mut [u8], i: usize, v: u8)
     ensures { λ _. ⌜ now (bytes .exit) ≡ set (now (bytes .entry)) i v ⌝ }
@@ -38,7 +39,8 @@ fn put_long(bytes: &mut [u8], i: usize, v: u32)
 fn put_meter(area: &mut [u8], head: Head)
     ensures { λ _. ⌜ now (area .exit) ≡ putMeter (now (area .entry)) head ⌝ }
 {
-    put_byte(area, 0, Kind::METER);
+    let profile = head.profile;
+    put_byte(area, 0, meter_kind(profile));
     put_byte(area, 1, head.dials);
     put_long(area, 2, head.capacity);
 }

@@ -43,7 +43,7 @@ module _ (sheet : List ℕ) (at : ℕ) where
 
 -- ---- where the next entry starts
 some-body : (form : Form) → 1 ≤ bodyBytes form
-some-body Enrol = omega arith
+some-body (Enrol profile) = omega arith
 some-body Submit = omega arith
 some-body Withdraw = omega arith
 some-body Report = omega arith

@@ -4,6 +4,7 @@ use mathlib.Core.List.{List, [], _∷_}
 use Prim.Native.Nat.{ℕ, zero, suc, _+_}
 use lib.Dec.{eqb, leb, ltb}
 use lib.ListN.{length}
+use Rattle.terms.specs.declared.profile.Profile.the-variants.{Ordinary, Pseudo}
 use Rattle.terms.specs.Number.{accepted, sheetFault}
 use Rattle.register.specs.Bytes.{byteAt, wordAt, longAt}
 use Rattle.calls.specs.declared.call.Call.{Call}
@@ -17,9 +18,10 @@ use Rattle.sheet.specs.declared.split.Next.the-variants.{Found, End, Fau
 
 -- ---- kinds and bodies, a row for each form
 
--- the paper's number for each form: "1 enrol", "2 submit", "3 withdraw", "4 report"; 02, 2: "sheet kind 5"
+-- the paper's number for each form: "1 enrol", "2 submit", "3 withdraw", "4 report"; 02, 2: "sheet kind 5"; 02, 4: "sheet kind 6"
 unfoldable pub kindByte : Form → ℕ
-kindByte Enrol = 1
+kindByte (Enrol Ordinary) = 1
+kindByte (Enrol Pseudo) = 6
 kindByte Submit = 2
 kindByte Withdraw = 3
 kindByte Report = 4
@@ -27,11 +29,11 @@ kindByte Fold = 5
 
 -- all of them
 abbrev pub forms : List Form
-forms = Enrol ∷ Submit ∷ Withdraw ∷ Report ∷ Fold ∷ []
+forms = Enrol Ordinary ∷ Submit ∷ Withdraw ∷ Report ∷ Fold ∷ Enrol Pseudo ∷ []
 
 -- how long a body is, field by field
 abbrev pub bodyBytes : Form → ℕ
-bodyBytes Enrol = 1 + 1 + 4
+bodyBytes (Enrol profile) = 1 + 1 + 4
 bodyBytes Submit = 1 + 2 + 2 + 4 + 1 + 1 + 1
 bodyBytes Withdraw = 1 + 2 + 4
 bodyBytes Report = 1
@@ -39,8 +41,9 @@ bodyBytes Fold = 1
 
 -- the call of a body that starts at i
 unfoldable pub callAt : Form → List ℕ → ℕ → Call
--- "1 enrol (place 1, dials 1, capacity 4)"
-callAt Enrol sheet i = call.Enrol (byteAt sheet i) (byteAt sheet (i + 1)) (longAt sheet (i + 2))
+-- "1 enrol (place 1, dials 1, capacity 4)"; 02, 4: "sheet kind 6 enrols it"
+callAt (Enrol profile) sheet i =
+    call.Enrol (byteAt sheet i) profile (byteAt sheet (i + 1)) (longAt sheet (i + 2))
 -- "2 submit (place 1, submission day 2, read day 2, value 4, type 1, indicator 1, re-read 1)"
 callAt Submit sheet i =
     call.Submit (byteAt sheet i)

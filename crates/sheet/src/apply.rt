@@ -15,9 +15,10 @@ pub fn apply(register: &mut [u8], call: Call) -> Reply
     match call {
         Call::Enrol {
             place,
+            profile,
             dials,
             capacity,
-        } => Reply::Answered(enrol(register, place, dials, capacity)),
+        } => Reply::Answered(enrol(register, place, profile, dials, capacity)),
         Call::Submit { place, read } => Reply::Answered(submit(register, place, read)),
         Call::Withdraw { place, day, value } => Reply::Answered(withdraw(
             register,

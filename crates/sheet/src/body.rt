@@ -8,6 +8,7 @@ use crate::form::Form;
 use crate::read::long_at;
 use crate::read::word_at;
 use calls::call::Call;
+use terms::profile::Profile;
 use terms::submission::Submission;
 
 // A place is one byte here, and two in a call.
@@ -18,15 +19,17 @@ fn place_at(sheet: &[u8], i: usize) -> u16
     sheet[i] as u16
 }
 
-fn enrol_at(sheet: &[u8], i: usize) -> Call
-    requires { ⌜ i + bodyBytes Form.Enrol ≤ length (now sheet) ⌝ }
-    ensures { λ r. ⌜ r ≡ callAt Form.Enrol (now (sheet .entry)) i ⌝ }
+fn enrol_at(sheet: &[u8], profile: Profile, i: usize) -> Call
+    requires { ⌜ i + bodyBytes (Form.Enrol profile) ≤ length (now sheet) ⌝ }
+    ensures { λ r. ⌜ r ≡ callAt (Form.Enrol profile) (now (sheet .entry)) i ⌝ }
 {
     let place = place_at(sheet, i);
+    let dials = sheet[i + 1];
     let capacity = long_at(sheet, i + 2);
     Call::Enrol {
         place,
-        dials: sheet[i + 1],
+        profile,
+        dials,
         capacity,
     }
 }
@@ -81,7 +84,7 @@ pub(crate) fn call_at(sheet: &[u8], form: Form, i: usize) -> Call
     ensures { λ r. ⌜ r ≡ callAt form (now (sheet .entry)) i ⌝ }
 {
     match form {
-        Form::Enrol => enrol_at(sheet, i),
+        Form::Enrol(profile) => enrol_at(sheet, profile, i),
         Form::Submit => submit_at(sheet, i),
         Form::Withdraw => withdraw_at(sheet, i),
         Form::Report => report_at(sheet, i),

@@ -1,10 +1,11 @@
 // The form of an entry: what its kind byte says of the body after it.
 ghost use mathlib.Core.Path.{_≡_};
 ghost use Rattle.sheet.specs.Sheet.{kindOf, bodyBytes};
+use terms::profile::Profile;
 
 // One for each kind of call that a sheet may hold.
 pub enum Form {
-    Enrol,
+    Enrol(Profile),
     Submit,
     Withdraw,
     Report,
@@ -21,11 +22,12 @@ pub fn kind_of(byte: u8) -> Kind
     ensures { λ r. ⌜ r ≡ kindOf byte ⌝ }
 {
     match byte {
-        1 => Kind::Known(Form::Enrol),
+        1 => Kind::Known(Form::Enrol(Profile::Ordinary)),
         2 => Kind::Known(Form::Submit),
         3 => Kind::Known(Form::Withdraw),
         4 => Kind::Known(Form::Report),
         5 => Kind::Known(Form::Fold),
+        6 => Kind::Known(Form::Enrol(Profile::Pseudo)),
         _ => Kind::Unknown,
     }
 }
@@ -35,7 +37,7 @@ pub fn body_bytes(form: Form) -> u8
     ensures { λ r. ⌜ r ≡ bodyBytes form ⌝ }
 {
     match form {
-        Form::Enrol => 6,
+        Form::Enrol(_) => 6,
         Form::Submit => 12,
         Form::Withdraw => 7,
         Form::Report => 1,

@@ -76,7 +76,7 @@ module _ (j : Journal) {t : Summary} (is : t ≡ summaryOf j) where
 module _ (s : Submission) (j : Journal) where
   pub date-good : firstBroken (contentRules s j) ≡ accepted → isBadDate s ≡ false
   unfolding contentRules
-  date-good h = unbroken accepted (contentRules s j) refl h .1 .1 .0
+  date-good h = unbroken accepted (contentRules s j) refl h .1 .1 .1 .0
 
   pub none-on-day : firstBroken (sameDayRules s j) ≡ accepted → isThere (sameDay s j) ≡ false
   unfolding sameDayRules

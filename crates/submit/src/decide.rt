@@ -96,7 +96,7 @@ fn decide_sound(area: &[u8], s: Submission, t: Summary, withdrawn: bool) -> Deci
     requires { ⌜ Counted (now area) t × (withdrawn ≡ isWithdrawnRead s (journalOf (now area) .entries)) ⌝ }
     ensures { λ r. ⌜ r ≡ decidedIn s (journalOf (now (area .entry))) (firstBroken (submitRules s (journalOf (now (area .entry))))) ⌝ }
 {
-    let content = content_number(s, t.limit, withdrawn);
+    let content = content_number(s, t, withdrawn);
     if content != Number::ACCEPTED {
         return refused(content);
     }

@@ -8,7 +8,7 @@ use Rattle.terms.specs.declared.entry.Slot.{Slot}
 use Rattle.terms.specs.declared.entry.Slot.the-variants.{Read, Empty}
 use Rattle.terms.specs.declared.entry.Recent.{Recent}
 
--- "Kind 1, meter"; "Kinds 2 standing, 3 withdrawn, 4 held"; 02, 2: "a carry, kind 5"
+-- "Kind 1, meter"; "Kinds 2 standing, 3 withdrawn, 4 held"; 02, 2: "a carry, kind 5"; 02, 4: "Kind 7 stands where kind 1 would"
 abbrev pub kindMeter : ℕ
 kindMeter = 1
 
@@ -23,6 +23,9 @@ kindHeld = 4
 
 abbrev pub kindCarry : ℕ
 kindCarry = 5
+
+abbrev pub kindPseudo : ℕ
+kindPseudo = 7
 
 -- "indicator (1 byte: 0 not set, 1 false, 2 true)"
 abbrev pub indicatorNotSet : ℕ

@@ -3,3 +3,4 @@ pub mod Entry
 pub mod Number
 pub mod Answer
 pub mod Rule
+pub mod Profile

@@ -88,3 +88,7 @@ noFold = 27
 
 abbrev pub oldestKept : ℕ
 oldestKept = 28
+
+-- 02, 4
+abbrev pub otherType : ℕ
+otherType = 29

@@ -13,6 +13,8 @@ impl Kind {
     pub const HELD: u8 = 4;
 
     pub const CARRY: u8 = 5;
+
+    pub const PSEUDO: u8 = 7;
 }
 
 // A standing, withdrawn or held read as the journal stores it: the kind and its body.

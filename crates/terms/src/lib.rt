@@ -3,4 +3,5 @@ pub mod answer;
 pub mod entry;
 pub mod letter;
 pub mod number;
+pub mod profile;
 pub mod submission;

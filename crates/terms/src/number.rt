@@ -59,4 +59,6 @@ impl Number {
     pub const NO_FOLD: u8 = 27;
 
     pub const OLDEST_KEPT: u8 = 28;
+
+    pub const OTHER_TYPE: u8 = 29;
 }

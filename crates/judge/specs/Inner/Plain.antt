@@ -7,19 +7,28 @@ use Rattle.arithmetic.specs.Powers.{tenTo}
 use Rattle.terms.specs.declared.entry.Entry.{Entry}
 use Rattle.terms.specs.Entry.{indicatorTrue, isStanding, slotAt}
 use Rattle.terms.specs.Letter.{isOpening, isFinal}
+use Rattle.terms.specs.declared.profile.Profile.{Profile}
+use Rattle.terms.specs.declared.profile.Profile.the-variants.{Ordinary, Pseudo}
+use Rattle.terms.specs.Profile.{takes}
 use Rattle.register.specs.declared.head.Head.{Head}
 use Rattle.register.specs.Head.{mostEntries}
 use Rattle.judge.specs.declared.limits.Limits.{Limits}
 use Rattle.judge.specs.declared.run.Run.{Run}
 use Rattle.journal.specs.Journal.{entriesTo, countFrom, standing, withdrawn, heldOf, isThere}
-use Rattle.journal.specs.Sound.{any, isFinalRead, takes, areInOrder, areApart}
+use Rattle.journal.specs.Sound.{any, isFinalRead, areInOrder, areApart}
 use Rattle.judge.specs.Inner.Index.{Indexed}
 use Rattle.judge.specs.Inner.Marks.{hasLetter}
 use Rattle.judge.specs.Inner.Run.{runOf}
 
--- a type that a meter takes, and that neither opens a journal nor ends one
-pub record PlainLetter (head : Head) (l : ℕ) : Type 0 where
-  pub taken : takes head l ≡ true
+-- the letters, a bit for each from 64 to 127, that a meter takes and that neither open a journal nor end one: C, E, R, S, T, U, X and Y, and
+-- none for a pseudo meter
+unfoldable pub plainLetters : Profile → ℕ
+plainLetters Ordinary = 54263848
+plainLetters Pseudo = 0
+
+-- such a letter
+pub record PlainLetter (profile : Profile) (l : ℕ) : Type 0 where
+  pub taken : takes profile l ≡ true
   pub inner : isOpening l ≡ false
   pub unending : isFinal l ≡ false
 
@@ -27,8 +36,8 @@ pub record PlainLetter (head : Head) (l : ℕ) : Type 0 where
 pub record IsLimits (head : Head) (l : Limits) : Type 0 where
   pub limit : l .limit ≡ tenTo (head .dials)
   pub most : l .most ≡ mostEntries head
-  pub letters : (letter : ℕ) → hasLetter (l .letters) letter ≡ true → PlainLetter head letter
-  pub carried : l .carried ≡ head .carried
+  pub letters : (letter : ℕ) → hasLetter (l .letters) letter ≡ true → PlainLetter (head .profile) letter
+  pub head-is : l .head ≡ head
 
 -- a body that may follow whatever stands, after the day of the last standing read
 pub record PlainBody (l : Limits) (last : ℕ) (e : Entry) : Type 0 where

@@ -13,6 +13,7 @@ use Rattle.calls.proofs.Bools.{by-test}
 use Rattle.arithmetic.specs.Powers.{tenTo}
 use Rattle.arithmetic.specs.Advance.{advanceOf}
 use Rattle.terms.specs.Letter.{isFinal}
+use Rattle.terms.specs.Profile.{meterKind, profileOf}
 use Rattle.terms.specs.Entry.{isStanding, isWithdrawn, isHeld, those, slotAt, recentOf}
 use Rattle.register.specs.Bytes.{wordAt, longAt}
 use Rattle.register.specs.Head.{isCarryAt, carryAt, noCarry, headOf, mostEntries, headBytes, offsetAfter}
@@ -33,7 +34,7 @@ unfolding foldIn HasZeros
 fold-zeros area = by-test (eqb (firstBroken (foldChecks area)) accepted) (λ h. rw h (refl, refl)) (λ h. rw h (refl, refl))
 
 returns : tie.Need-returns
-unfolding isWithdrawn those any hasRead placeOf isWithdrawnRead numberOf names mayChange isPicked picked isSameRead takeOut emptyLedger flagOf entered isAccepted ledgerAfter ledgerOf hasAccepted isEnrolment hasEnrolment firstValueOf lastLessFirst isAmong areNoneOf year fourReads lessFirst keptFrom stays carryAfter headAfter foldedJournal isStanding isHeld slotAt dayOf isFlagged flaggedOf standingIn flaggedIn firstIn firstValue totalOf reportOf advanceOf tenTo isNoFold isFinal isOldestKept oldestOf noCarry mostEntries carriesRight isCarry isBefore holds isNotStanding isNotLast withdrawRules indicatedIn recentOf detected indicated isNotRollover isSmallStep isRollover isPlain scaledOf isNearTurn isLikeRate isSmallPart isSmallTurn isSmallAdvance headBytes offsetAfter wordAt longAt isCarryAt carryAt headOf
+unfolding isWithdrawn those any hasRead placeOf isWithdrawnRead numberOf names mayChange isPicked picked isSameRead takeOut emptyLedger flagOf entered isAccepted ledgerAfter ledgerOf hasAccepted isEnrolment hasEnrolment firstValueOf lastLessFirst isAmong areNoneOf year fourReads lessFirst keptFrom stays carryAfter headAfter foldedJournal isStanding isHeld slotAt dayOf isFlagged flaggedOf standingIn flaggedIn firstIn firstValue totalOf reportOf advanceOf tenTo isNoFold isFinal isOldestKept oldestOf noCarry mostEntries carriesRight isCarry isBefore holds isNotStanding isNotLast withdrawRules indicatedIn recentOf detected indicated isNotRollover isSmallStep isRollover isPlain scaledOf isNearTurn isLikeRate isSmallPart isSmallTurn isSmallAdvance headBytes offsetAfter wordAt longAt isCarryAt carryAt headOf meterKind profileOf
 returns c =
     record {
       report-picked = refl;

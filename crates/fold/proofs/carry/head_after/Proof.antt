@@ -12,7 +12,7 @@ use borrow.Author.Needs.{needs}
 use Rattle.fold.proofs.carry.head_after.Statement.{statement}
 use Rattle.fold.proofs.carry.head_after.Tie as tie
 
-head-is : (area : List ℕ) (t : Summary) → Counted area t → {carry : Carry} → carry ≡ carryAfter (journalOf area) → record { dials = t .head .dials; capacity = t .head .capacity; carried = true; carry = carry } ≡ headAfter (journalOf area)
+head-is : (area : List ℕ) (t : Summary) → Counted area t → {carry : Carry} → carry ≡ carryAfter (journalOf area) → record { profile = t .head .profile; dials = t .head .dials; capacity = t .head .capacity; carried = true; carry = carry } ≡ headAfter (journalOf area)
 unfolding headAfter summaryOf
 head-is area t c e = rw (e, c .summary)
 

@@ -19,7 +19,7 @@ returns : tie.Need-returns
 unfolding isRead
 returns c =
     let k = c .before in
-    λ head l.
+    λ l.
     rw (
       ← k .before .before .is-standing .ensures,
       ← k .before .is-withdrawn .ensures,
@@ -34,13 +34,13 @@ returns-2 : tie.Need-returns-2
 unfolding isRead
 returns-2 c =
     let k = c .before .before in
-    λ head l.
+    λ l.
     rw (
       ← k .before .before .is-standing .ensures,
       ← k .before .is-withdrawn .ensures,
       ← k .is-held .ensures,
       not-false (k .before .before .is-standing .result || (k .before .is-withdrawn .result || k .is-held .result)) (c .before .if1 .left),
-      c .is-in-range .ensures head l,
+      c .is-in-range .ensures l,
     )
 
 pub is-read-spec : {M : Type 1} → statement M

@@ -8,14 +8,14 @@ use Rattle.journal.proofs.order.may_follow.Tie as tie
 
 returns : tie.Need-returns
 unfolding followsBy
-returns c = λ head l k. rw (c .if1 .taken, and-false)
+returns c = λ l. rw (c .if1 .taken, and-false)
 
 is-read-requires : tie.Need-is-read-requires
 is-read-requires c κs = search needs
 
 returns-2 : tie.Need-returns-2
 unfolding followsBy
-returns-2 c = λ head l k. rw (← c .before .is-read .ensures head l, not-true (c .before .is-read .result) (c .if2 .taken))
+returns-2 c = λ l. rw (← c .before .is-read .ensures l, not-true (c .before .is-read .result) (c .if2 .taken))
 
 is-final-requires : tie.Need-is-final-requires
 is-final-requires c κs = search needs
@@ -31,15 +31,15 @@ unfolding followsBy
 returns-3 c =
     let s = c .before .before in
     let read = s .before .before in
-    λ head l k.
+    λ l.
     rw (
-      ← read .before .is-read .ensures head l,
+      ← read .before .is-read .ensures l,
       not-false (read .before .is-read .result) (read .if2 .left),
       read .before .before .if1 .left,
       ← s .is-standing .ensures,
       c .before .if3 .taken,
       s .before .is-final .ensures,
-      c .may-stand .ensures head k,
+      c .may-stand .ensures,
     )
 
 is-held-requires : tie.Need-is-held-requires
@@ -54,9 +54,9 @@ returns-4 c =
     let held = c .before .before in
     let s = held .before .before in
     let read = s .before .before in
-    λ head l k.
+    λ l.
     rw (
-      ← read .before .is-read .ensures head l,
+      ← read .before .is-read .ensures l,
       not-false (read .before .is-read .result) (read .if2 .left),
       read .before .before .if1 .left,
       ← s .is-standing .ensures,

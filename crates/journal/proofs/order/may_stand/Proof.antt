@@ -10,14 +10,14 @@ is-opening-requires c κs = search needs
 
 returns : tie.Need-returns
 unfolding standsBy
-returns c = λ head k. rw (c .before .before .if1 .taken, c .is-opening .ensures)
+returns c = rw (c .before .before .if1 .taken, c .is-opening .ensures)
 
 is-opening-requires-2 : tie.Need-is-opening-requires-2
 is-opening-requires-2 c κs = search needs
 
 returns-2 : tie.Need-returns-2
 unfolding standsBy opens
-returns-2 c = λ head k. rw (c .before .before .if1 .left, c .before .is-opening2 .ensures, k)
+returns-2 c = rw (c .before .before .before .if1 .left, c .before .before .is-opening2 .ensures)
 
 pub may-stand-spec : {M : Type 1} → statement M
 may-stand-spec = tie.close (tie.spec is-opening-requires returns is-opening-requires-2 returns-2)

@@ -6,7 +6,8 @@ use Prim.Native.Nat.{ℕ}
 use borrow.Author.Tests.{ne-eqb}
 use lib.ListN.{getD}
 use Rattle.register.specs.Area.{allZero}
-use Rattle.register.specs.Head.{bodyOf}
+use Rattle.terms.proofs.Profiles.{some-kind}
+use Rattle.register.specs.Head.{headOf, bodyOf}
 use Rattle.journal.specs.Sound.{isHead, isSound}
 use Rattle.judge.specs.declared.area.Judgement.{Judgement}
 use Rattle.judge.specs.Inner.Judged.{judged, Judges, Answers}
@@ -23,7 +24,7 @@ first-not-zero (b ∷ bs) h = rw (ne-eqb b 0 h)
 
 first-zero : (area : List ℕ) → getD area 0 0 ≡ 0 → isSound area ≡ false
 unfolding isSound isHead
-first-zero area h = rw h
+first-zero area h = rw (h, some-kind (headOf area .profile))
 
 answered : {area : List ℕ} {day value : ℕ} {r : Judgement} → Answers (judged area) (bodyOf area) day value r → Judges area (r .found) × Answers (judged area) (bodyOf area) day value r
 answered {area} is = (judges area (is .found-is), is)

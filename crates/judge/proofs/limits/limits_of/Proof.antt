@@ -7,17 +7,20 @@ use borrow.Author.Needs.{needs}
 use Rattle.judge.proofs.limits.limits_of.Statement.{statement}
 use Rattle.judge.proofs.limits.limits_of.Tie as tie
 
+plain-letters-requires : tie.Need-plain-letters-requires
+plain-letters-requires c κs = search needs
+
 power-requires : tie.Need-power-requires
 power-requires c κs = search needs
 
-cast-t3 : tie.Need-cast-t3
-cast-t3 c = omega (arith, c .power .ensures, ten-at-most (c .before .args .head .dials))
+cast-limit : tie.Need-cast-limit
+cast-limit c = omega (arith, c .power .ensures, ten-at-most (c .before .before .args .head .dials))
 
 most-entries-requires : tie.Need-most-entries-requires
 most-entries-requires c κs = search needs
 
 returns : tie.Need-returns
-returns c = record { limit = c .before .power .ensures; most = c .most-entries .ensures; letters = plain-letter _; carried = refl }
+returns c = record { limit = c .before .power .ensures; most = c .most-entries .ensures; letters = rw (c .before .before .plain-letters .ensures) (plain-letter _); head-is = refl }
 
 pub limits-of-spec : {M : Type 1} → statement M
-limits-of-spec = tie.close (tie.spec power-requires cast-t3 most-entries-requires returns)
+limits-of-spec = tie.close (tie.spec plain-letters-requires power-requires cast-limit most-entries-requires returns)

@@ -45,7 +45,7 @@ module _ (c : tie.After-stand) where
   one : c .stand .result .count ≡ 1
   one = c .stand .ensures .0 ∙ ap (λ (n : ℕ). n + 1) (start-zero none .0)
 
-  is-first : First (started .before .before .args .limits .limit) (first .before .entry-at .result)
+  is-first : First (started .before .before .args .limits) (first .before .entry-at .result)
   is-first = first .is-first .ensures (not-false _ (c .before .if2 .left))
 
   opened : c .stand .result ≡ runOf (first .before .entry-at .result ∷ [])

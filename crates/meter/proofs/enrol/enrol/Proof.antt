@@ -49,7 +49,7 @@ unfolding placeOf refusalOf
 returns c =
     let l = c .before .before .before .before in
     let start = l .before .before .before .args in
-    rw (c .refuse .ensures) (refuses (Enrol (start .place) (start .dials) (start .capacity)) (start .register .now) (sym (l .locate .ensures .found-is) ∙ c .before .before .number .given .1))
+    rw (c .refuse .ensures) (refuses (Enrol (start .place) (start .profile) (start .dials) (start .capacity)) (start .register .now) (sym (l .locate .ensures .found-is) ∙ c .before .before .number .given .1))
 
 same-length-2 : tie.Need-same-length-2
 same-length-2 c = search needs
@@ -59,7 +59,7 @@ unfolding placeOf act
 returns-2 c =
     let e = c .before .before .before .before .before in
     let start = e .before .before .before .before .before .args in
-    writes (Enrol (start .place) (start .dials) (start .capacity)) (start .register .now) (here e) (c .before .before .enrol-in .ensures)
+    writes (Enrol (start .place) (start .profile) (start .dials) (start .capacity)) (start .register .now) (here e) (c .before .before .enrol-in .ensures)
 
 pub enrol-spec : {M : Type 1} → statement M
 enrol-spec =

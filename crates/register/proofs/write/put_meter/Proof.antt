@@ -4,6 +4,9 @@ use borrow.Author.Needs.{needs}
 use Rattle.register.proofs.write.put_meter.Statement.{statement}
 use Rattle.register.proofs.write.put_meter.Tie as tie
 
+meter-kind-requires : tie.Need-meter-kind-requires
+meter-kind-requires c κs = search needs
+
 put-byte-requires : tie.Need-put-byte-requires
 put-byte-requires c κs = search needs
 
@@ -23,4 +26,4 @@ returns c = cc
 pub put-meter-spec : {M : Type 1} → statement M
 put-meter-spec =
     tie.close
-    (tie.spec put-byte-requires put-byte-requires-2 put-long-requires same-length returns)
+    (tie.spec meter-kind-requires put-byte-requires put-byte-requires-2 put-long-requires same-length returns)

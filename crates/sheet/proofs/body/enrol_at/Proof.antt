@@ -7,17 +7,17 @@ use Rattle.sheet.proofs.body.enrol_at.Tie as tie
 place-at-requires : tie.Need-place-at-requires
 place-at-requires c κs = search needs
 
+add-dials : tie.Need-add-dials
+add-dials c = search needs
+
+shared-slice-read-dials : tie.Need-shared-slice-read-dials
+shared-slice-read-dials c = search needs
+
 add-long-at : tie.Need-add-long-at
 add-long-at c = search needs
 
 long-at-requires : tie.Need-long-at-requires
 long-at-requires c κs = search needs
-
-add-t5 : tie.Need-add-t5
-add-t5 c = search needs
-
-shared-slice-read-t7 : tie.Need-shared-slice-read-t7
-shared-slice-read-t7 c = search needs
 
 returns : tie.Need-returns
 unfolding callAt
@@ -26,4 +26,10 @@ returns c = cc
 pub enrol-at-spec : {M : Type 1} → statement M
 enrol-at-spec =
     tie.close
-    (tie.spec place-at-requires add-long-at long-at-requires add-t5 shared-slice-read-t7 returns)
+    (tie.spec
+    place-at-requires
+    add-dials
+    shared-slice-read-dials
+    add-long-at
+    long-at-requires
+    returns)

@@ -15,12 +15,11 @@ use Rattle.submit.proofs.decide.decide_sound.Tie as tie
 content-number-requires : tie.Need-content-number-requires
 content-number-requires c κs = search needs
 
--- the limit and whether the read is withdrawn are the journal's
+-- what is counted and whether the read is withdrawn are the journal's
 content-is : (c : tie.After-content-number) → let start = c .before .before in c .content-number .result ≡ firstBroken (contentRules (start .args .s) (journalOf (start .args .area .now)))
-unfolding summaryOf
 content-is c =
     let start = c .before .before in
-    c .content-number .ensures _ (ap (λ (t : Summary). t .limit) (start .pre .0 .summary)) (start .pre .1)
+    c .content-number .ensures _ (start .pre .0 .summary) (start .pre .1)
 
 refused-requires : tie.Need-refused-requires
 refused-requires c κs = search needs
