@@ -1,5 +1,5 @@
 -- Tests that failed.
-use mathlib.Core.Path.{_≡_, refl, subst}
+use mathlib.Core.Path.{_≡_, refl, sym, subst}
 use mathlib.Core.Bool.{Bool, true, false, _&&_, _||_, and-eq-true-iff}
 
 abbrev isFalse : Bool → Type 0
@@ -16,3 +16,8 @@ both x y = and-eq-true-iff x y .0
 pub or-none : (x : Bool) → x || false ≡ x
 or-none true = refl
 or-none false = refl
+
+pub neither : (x y : Bool) → x || y ≡ false → (x ≡ false) × (y ≡ false)
+neither false false h = (refl, refl)
+neither false true h = false-is (sym h)
+neither true y h = false-is (sym h)

@@ -4,17 +4,13 @@ use mathlib.Core.Bool.{Bool, true, false, not, _&&_, _||_}
 use Prim.Native.Nat.{ℕ, zero, suc, _+_, _-_, _*_, _/_, _%_, _^_, _≤_, _<_}
 use native.Mathlib.Nat.{mod-lt, mod-eq-of-lt, div-self, one-mul}
 use native.Mathlib.Omega.{arith}
-use borrow.Author.Tests.{eqb-true, eq-eqb, leb-true, not-true}
+use borrow.Author.Tests.{eqb-true, eq-eqb, not-true}
 use lib.Bits.{bitOr, or-shr, or-mod, or-comm}
-use lib.Dec.{leb}
 use lib.Pow.{pow-pos, pow-lt}
 use Rattle.terms.specs.Letter.{isKnown, isOpening, isFinal}
 use Rattle.terms.proofs.Below.{all-below, below}
-use Rattle.terms.specs.declared.profile.Profile.{Profile}
-use Rattle.terms.specs.declared.profile.Profile.the-variants.{Ordinary, Pseudo}
-use Rattle.terms.specs.Profile.{takes}
-use Rattle.judge.specs.Inner.Marks.{markOf, isMarked, markOn, hasLetter}
-use Rattle.judge.specs.Inner.Plain.{plainLetters, PlainLetter}
+use Rattle.judge.specs.Inner.Marks.{markOf, isMarked, markOn}
+use Rattle.judge.specs.Inner.Plain.{PlainLetter}
 use Rattle.journal.proofs.Bools.{false-is, both}
 
 or-bit : (a b k : ℕ) → bitOr a b / 2 ^ k % 2 ≡ bitOr (a / 2 ^ k % 2) (b / 2 ^ k % 2)
@@ -52,32 +48,26 @@ bit-shifted v =
     let small : 2 ^ (v % 64) < 2 ^ 64 = pow-lt (mod-lt v (omega arith)) in
     ap (λ (n : ℕ). n % 18446744073709551616) (one-mul (2 ^ (v % 64))) ∙ mod-eq-of-lt small
 
--- ---- every letter of the 64 that has a bit is plain: one test over all places, for each profile
-isPlain : Profile → ℕ → Bool
-isPlain p l = takes p l && (not (isOpening l) && not (isFinal l))
+-- ---- every letter of the 64 that has a bit is plain: one test over all places
+isPlain : ℕ → Bool
+isPlain l = isKnown l && (not (isOpening l) && not (isFinal l))
 
-plain-there : Profile → ℕ → Bool
-plain-there p k = not (isMarked (plainLetters p) (64 + k)) || isPlain p (64 + k)
+plain-there : ℕ → Bool
+plain-there k = not (isMarked 54263848 (64 + k)) || isPlain (64 + k)
 
-all-plain : (p : Profile) → all-below 64 (plain-there p) ≡ true
-unfolding all-below plain-there isPlain plainLetters takes markOf isKnown isOpening isFinal
-all-plain Ordinary = refl
-all-plain Pseudo = refl
+all-plain : all-below 64 plain-there ≡ true
+unfolding all-below plain-there isPlain markOf isKnown isOpening isFinal
+all-plain = refl
 
 one-of : (x y : Bool) → x ≡ true → not x || y ≡ true → y ≡ true
 one-of true y h g = g
 one-of false y h g = false-is h
 
-pub plain-letter : (p : Profile) (l : ℕ) → hasLetter (plainLetters p) l ≡ true → PlainLetter p l
-unfolding hasLetter plain-there isPlain
-plain-letter p l h =
-    let marked = isMarked (plainLetters p) l in
-    let low = both (leb 64 l) (leb l 127 && marked) h in
-    let high = both (leb l 127) marked (low .1) in
-    let from : 64 ≤ l = leb-true 64 l (low .0) in
-    let to : l ≤ 127 = leb-true l 127 (high .0) in
+pub plain-letter : (l : ℕ) → 64 ≤ l → l ≤ 127 → isMarked 54263848 l ≡ true → PlainLetter l
+unfolding plain-there isPlain
+plain-letter l from to marked =
     let at : 64 + (l - 64) ≡ l = omega arith in
-    let plain : isPlain p l ≡ true = one-of marked (isPlain p l) (high .1) (rw at at (below 64 (plain-there p) (all-plain p) (l - 64) (omega arith))) in
-    let taken = both (takes p l) (not (isOpening l) && not (isFinal l)) plain in
-    let others = both (not (isOpening l)) (not (isFinal l)) (taken .1) in
-    record { taken = taken .0; inner = not-true (isOpening l) (others .0); unending = not-true (isFinal l) (others .1) }
+    let plain : isPlain l ≡ true = one-of (isMarked 54263848 l) (isPlain l) marked (rw at at (below 64 plain-there all-plain (l - 64) (omega arith))) in
+    let known = both (isKnown l) (not (isOpening l) && not (isFinal l)) plain in
+    let others = both (not (isOpening l)) (not (isFinal l)) (known .1) in
+    record { known = known .0; inner = not-true (isOpening l) (others .0); unending = not-true (isFinal l) (others .1) }

@@ -9,7 +9,7 @@ use borrow.Author.Tests.{eqb-true, ne-eqb, lt-ltb}
 use lib.Dec.{eqb}
 use lib.ListN.{length}
 use Rattle.terms.specs.declared.entry.Entry.{Entry}
-use Rattle.terms.specs.Letter.{letterI, letterO, isOpening, isFinal}
+use Rattle.terms.specs.Letter.{letterI, letterO, isKnown, isOpening, isFinal}
 use Rattle.terms.specs.Entry.{isStanding, isHeld, those, slotAt}
 use Rattle.register.specs.declared.head.Head.{Head}
 use Rattle.register.specs.Bytes.{byteAt}
@@ -24,13 +24,13 @@ use Rattle.journal.specs.Sound.{every, any, isFinalRead, holds, opens, isInRang
 use Rattle.journal.specs.Inner.Loops.{standsBy, followsBy}
 use Rattle.judge.specs.Inner.Index.{crowded}
 use Rattle.judge.specs.Inner.Run.{runOf}
-use Rattle.judge.specs.Inner.Plain.{IsLimits, IsOpen, RunsTo}
+use Rattle.judge.specs.Inner.Plain.{takesAll, IsLimits, IsAll, IsOpen, RunsTo}
 use Rattle.judge.specs.Inner.Pass.{passOf, IsPass, IsPassed, First, Starts, PassesTo, IsClear, GoesOn}
 use Rattle.journal.proofs.Bools.{false-is, both}
 use Rattle.journal.proofs.Entries.{any-kept, one-more, length-entries, count-on, count-past, count-from-most}
 use Rattle.journal.proofs.InOrder.{in-order-more, by-numbers, days-rise, stands-unheld, disordered-stays}
 use Rattle.judge.proofs.Clashes.{stands-unwithdrawn, stays-apart}
-use Rattle.judge.proofs.Runs.{there-counted, held-there}
+use Rattle.judge.proofs.Runs.{there-counted, held-there, takes-known}
 
 pub pass-more : (head : Head) (before after : Bool) (e : Entry) (es : List Entry) → passOf head after (e ∷ es) ≡ record {
   run = runOf (e ∷ es);
@@ -166,24 +166,27 @@ start-goes most body =
     rw e
 
 -- ---- the read that opens a journal
-opening-unending : (l : ℕ) → isOpening l ≡ true → isFinal l ≡ false
-unfolding isOpening isFinal
-opening-unending l h = cases (eqb l letterI) refl where
-  cases : (b : Bool) → eqb l letterI ≡ b → isFinal l ≡ false
-  cases true e = rw (eqb-true l letterI e)
-  cases false e = rw (eqb-true l letterO (rw e at h))
+opening-is : (l : ℕ) → isOpening l ≡ true → (isKnown l ≡ true) × (isFinal l ≡ false)
+unfolding isOpening isKnown isFinal
+opening-is l h = cases (eqb l letterI) refl where
+  cases : (b : Bool) → eqb l letterI ≡ b → (isKnown l ≡ true) × (isFinal l ≡ false)
+  cases true e = rw (eqb-true l letterI e) (refl, refl)
+  cases false e = rw (eqb-true l letterO (rw e at h)) (refl, refl)
 
-module _ {head : Head} {l : Limits} {e : Entry} (limits : IsLimits head l) (first : First l e) where
+-- the limits of a meter, if it takes every type
+pub is-all : {head : Head} {l : Limits} → takesAll (l .head .profile) ≡ true → IsLimits head l → IsAll head l
+is-all all limits = record { limits = limits; all = rw (limits .head-is) at all }
+
+module _ {head : Head} {l : Limits} {e : Entry} (is : IsAll head l) (first : First (l .limit) e) where
   read-is : isRead head e ≡ true
   unfolding isRead isInRange holds
   read-is =
       rw (
         first .stands,
         ne-eqb (e .day) 0 (first .dated),
-        ← limits .limit,
+        ← is .limits .limit,
         lt-ltb (e .value) (l .limit) (first .small),
-        ← limits .head-is,
-        first .taken,
+        takes-known (head .profile) (e .letter) (is .all) (opening-is (e .letter) (first .opening) .0),
         first .opening,
         first .indicator,
         first .flag,
@@ -191,7 +194,7 @@ module _ {head : Head} {l : Limits} {e : Entry} (limits : IsLimits head l) (firs
 
   first-follows : followsBy head e false 0 false false ≡ true
   unfolding followsBy standsBy opens
-  first-follows = rw (read-is, first .stands, first .opening, first .flag, or-true, opening-unending (e .letter) (first .opening))
+  first-follows = rw (read-is, first .stands, first .opening, first .flag, or-true, opening-is (e .letter) (first .opening) .1)
 
   first-open : IsOpen head false true (e ∷ [])
   unfolding areInOrder areApart every any those heldOf isThere slotAt dayOf daysRise opensRight hasOneFinal isHeldRight
@@ -200,7 +203,7 @@ module _ {head : Head} {l : Limits} {e : Entry} (limits : IsLimits head l) (firs
         ordered = rw (in-order-more head e [], by-numbers, first-follows);
         stands = rw (first .stands);
         unheld = rw (stands-unheld e (first .stands));
-        ended-is = rw (first .stands, opening-unending (e .letter) (first .opening));
+        ended-is = rw (first .stands, opening-is (e .letter) (first .opening) .1);
         apart = λ c. rw (stands-unwithdrawn e (first .stands));
       }
 
@@ -234,14 +237,14 @@ module _ (body : List ℕ) (l : Limits) where
           let some : length (standing (e ∷ [])) ≡ 1 = rw s in
           omega arith
 
-    pub starts-first : {opened run : Run} → First l e → 0 < l .most → opened .count ≡ 1 → RunsTo body l opened run → (withdrawn (entriesTo (opened .count) body) ≡ [] → withdrawn (entriesTo (run .count) body) ≡ []) → Starts body l (record { run = run; ordered = true; held = false; ended = false; apart = true })
+    pub starts-first : {opened run : Run} → takesAll (l .head .profile) ≡ true → First (l .limit) e → 0 < l .most → opened .count ≡ 1 → RunsTo body l opened run → (withdrawn (entriesTo (opened .count) body) ≡ [] → withdrawn (entriesTo (run .count) body) ≡ []) → Starts body l (record { run = run; ordered = true; held = false; ended = false; apart = true })
     unfolding entriesTo entryAt isStanding those
-    starts-first {opened} {run} first some one runs none =
+    starts-first {opened} {run} all first some one runs none =
         let kind : byteAt body (entryStart 0) ≡ 0 → ⊥ = λ z. (let k : e .kind ≡ 2 = eqb-true _ _ (first .stands) in let n : e .kind ≡ 0 = rw read z in omega arith) in
         let on : entriesTo (opened .count) body ≡ e ∷ [] = ap (λ (k : ℕ). entriesTo k body) one ∙ rw (← read) in
         record {
           few = runs .few;
           goes = sym (runs .goes) ∙ ap (λ (k : ℕ). countFrom (l .most - k) k body) one ∙ sym (count-on (l .most) 0 body some kind) ∙ start-goes (l .most) body;
-          pass = λ head limits. open-pass run (runs .run-is) (runs .opened head false true limits (rw on (first-open limits first)));
+          pass = λ head limits. let is = is-all all limits in open-pass run (runs .run-is) (runs .opened head false true is (rw on (first-open is first)));
           none = none (rw (on, stands-unwithdrawn e (first .stands)));
         }

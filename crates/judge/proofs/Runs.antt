@@ -11,6 +11,10 @@ use lib.ListN.{length}
 use Rattle.terms.specs.declared.entry.Entry.{Entry}
 use Rattle.terms.specs.Entry.{kindWithdrawn, isStanding, isWithdrawn, isHeld, keepIf, those, slotAt}
 use Rattle.terms.specs.declared.entry.Slot.the-variants.{Empty}
+use Rattle.terms.specs.declared.profile.Profile.{Profile}
+use Rattle.terms.specs.declared.profile.Profile.the-variants.{Ordinary, Pseudo}
+use Rattle.terms.specs.Letter.{isKnown}
+use Rattle.terms.specs.Profile.{takes}
 use Rattle.register.specs.declared.head.Head.{Head}
 use Rattle.register.specs.Bytes.{byteAt}
 use Rattle.register.specs.Entries.{entryStart, entryAt}
@@ -20,8 +24,9 @@ use Rattle.journal.specs.Journal.{entriesTo, standing, withdrawn, slotIf, heldO
 use Rattle.journal.specs.Sound.{any, isFinalRead, holds, isInRange, isRead, hasRead, areInOrder}
 use Rattle.journal.specs.Inner.Loops.{standsBy, followsBy}
 use Rattle.judge.specs.Inner.Run.{lastDay, runOf, ranTo}
-use Rattle.judge.specs.Inner.Plain.{PlainLetter, IsLimits, PlainBody, IsOpen, OneOn, RunsTo}
+use Rattle.judge.specs.Inner.Plain.{takesAll, IsAll, PlainBody, IsOpen, OneOn, RunsTo}
 use Rattle.judge.proofs.Clashes.{stands-unwithdrawn, withdrawn-unstanding, free-standing, free-withdrawn, stays-apart}
+use Rattle.journal.proofs.Bools.{false-is}
 use Rattle.journal.proofs.Entries.{any-kept, one-more, those-more, length-entries, those-at-most, count-on}
 use Rattle.journal.proofs.InOrder.{in-order-more, by-numbers, days-rise, stands-unheld}
 
@@ -94,9 +99,15 @@ withdrawn-unheld : (e : Entry) → isWithdrawn e ≡ true → isHeld e ≡ false
 unfolding isWithdrawn isHeld
 withdrawn-unheld e h = rw (eqb-true (e .kind) kindWithdrawn h)
 
-module _ {head : Head} {l : Limits} {last : ℕ} {e : Entry} (is : IsLimits head l) (b : PlainBody l last e) where
-  letter-is : PlainLetter (head .profile) (e .letter)
-  letter-is = is .letters (e .letter) (b .letter)
+-- a meter that takes every type takes each that is known
+pub takes-known : (p : Profile) (l : ℕ) → takesAll p ≡ true → isKnown l ≡ true → takes p l ≡ true
+unfolding takesAll takes
+takes-known Ordinary l all known = known
+takes-known Pseudo l all known = false-is all
+
+module _ {head : Head} {l : Limits} {last : ℕ} {e : Entry} (is : IsAll head l) (b : PlainBody l last e) where
+  taken : takes (head .profile) (e .letter) ≡ true
+  taken = takes-known (head .profile) (e .letter) (is .all) (b .letter .known)
 
   range-is : isInRange head e ≡ true
   unfolding isInRange holds
@@ -104,23 +115,23 @@ module _ {head : Head} {l : Limits} {last : ℕ} {e : Entry} (is : IsLimits head
       let d : e .day ≡ 0 → ⊥ = λ h. omega (arith, b .later) in
       rw (
         ne-eqb (e .day) 0 d,
-        ← is .limit,
+        ← is .limits .limit,
         lt-ltb (e .value) (l .limit) (b .small),
-        letter-is .taken,
-        letter-is .inner,
+        taken,
+        b .letter .inner,
         le-leb (e .indicator) 2 (b .indicator),
         b .flag,
       )
 
   follows-standing : (ended : Bool) → isStanding e ≡ true → followsBy head e true last false ended ≡ true
   unfolding followsBy standsBy isRead
-  follows-standing ended s = rw (s, range-is, letter-is .inner, letter-is .unending, lt-ltb last (e .day) (b .later))
+  follows-standing ended s = rw (s, range-is, b .letter .inner, b .letter .unending, lt-ltb last (e .day) (b .later))
 
   follows-withdrawn : (ended : Bool) → isWithdrawn e ≡ true → followsBy head e true last false ended ≡ true
   unfolding followsBy isRead
   follows-withdrawn ended w = rw (withdrawn-unstanding e w, w, withdrawn-unheld e w, range-is)
 
-module _ {head : Head} {l : Limits} {e : Entry} {ended clear : Bool} (es : List Entry) (is : IsLimits head l) (b : PlainBody l (lastDay es) e) (op : IsOpen head ended clear es) where
+module _ {head : Head} {l : Limits} {e : Entry} {ended clear : Bool} (es : List Entry) (is : IsAll head l) (b : PlainBody l (lastDay es) e) (op : IsOpen head ended clear es) where
   order-more : followsBy head e true (lastDay es) false (any isFinalRead (standing es)) ≡ true → areInOrder head (e ∷ es) ≡ true
   order-more follows = rw (in-order-more, by-numbers, op .stands, op .unheld, follows) (op .ordered)
 
@@ -131,7 +142,7 @@ module _ {head : Head} {l : Limits} {e : Entry} {ended clear : Bool} (es : List 
         ordered = order-more (follows-standing is b (any isFinalRead (standing es)) s);
         stands = rw (s, there-kept);
         unheld = rw (held-there, stands-unheld e s);
-        ended-is = rw (s, any-kept, letter-is is b .unending) (op .ended-is);
+        ended-is = rw (s, any-kept, b .letter .unending) (op .ended-is);
         apart = λ c. stays-apart e es (free-standing e es s none) (op .apart c);
       }
 

@@ -4,6 +4,7 @@ pub mod area;
 mod carry;
 mod halving;
 mod index;
+mod letters;
 pub mod limits;
 mod marks;
 mod opening;

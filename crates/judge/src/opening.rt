@@ -9,6 +9,7 @@ ghost use Rattle.register.specs.Entries.{entryStart};
 ghost use Rattle.judge.specs.Inner.Run.{runOf};
 ghost use Rattle.judge.specs.Inner.Pass.{passOf, First, Starts};
 use crate::limits::Limits;
+use crate::limits::takes_all;
 use crate::pass::Pass;
 use crate::read::entry_at;
 use crate::run::plain_over;
@@ -18,7 +19,6 @@ use journal::order::is_standing;
 use register::head::HeadSize;
 use terms::entry::Entry;
 use terms::letter::is_opening;
-use terms::profile::takes;
 
 fn start_pass() -> Pass
     ensures { λ r. ⌜ (r .run ≡ runOf []) × ((head : Head) → r ≡ passOf head (r .apart) []) ⌝ }
@@ -34,8 +34,8 @@ fn start_pass() -> Pass
 }
 
 // A read that opens a journal, with no indicator: never yes wrongly. Indicator and flag are tested together.
-fn is_first(limits: Limits, e: Entry) -> bool
-    ensures { λ r. ⌜ (r ≡ true → First limits e) ⌝ }
+fn is_first(limit: u32, e: Entry) -> bool
+    ensures { λ r. ⌜ (r ≡ true → First limit e) ⌝ }
 {
     if !is_standing(e) {
         return false;
@@ -43,15 +43,10 @@ fn is_first(limits: Limits, e: Entry) -> bool
     if e.day == 0 {
         return false;
     }
-    if limits.limit <= e.value {
+    if limit <= e.value {
         return false;
     }
     if !is_opening(e.letter) {
-        return false;
-    }
-    let head = limits.head;
-    let profile = head.profile;
-    if !takes(profile, e.letter) {
         return false;
     }
     let indicator = e.indicator as u16;
@@ -59,18 +54,21 @@ fn is_first(limits: Limits, e: Entry) -> bool
     indicator + 256 * flag == 0
 }
 
-// Past these. What else may be at the start is left to the way that knows all the rules, and so is what follows a carry: without one the most
-// entries are a number that the compiler knows.
+// Past these. What else may be at the start is left to the way that knows all the rules. So is what follows a carry, since without one the most
+// entries are a number that the compiler knows, and what a meter holds that does not take every type.
 pub(crate) fn open_over(body: &[u8], limits: Limits) -> Pass
     requires { ⌜ entryStart (limits .most) ≤ length (now body) ⌝ }
     ensures { λ r. ⌜ Starts (now (body .entry)) limits r ⌝ }
 {
     let start = start_pass();
-    if limits.most != HeadSize::MAX_ENTRIES {
+    let head = limits.head;
+    let profile = head.profile;
+    let all = takes_all(profile);
+    if (limits.most != HeadSize::MAX_ENTRIES) | !all {
         return start;
     }
     let e = entry_at(body, 0);
-    if !is_first(limits, e) {
+    if !is_first(limits.limit, e) {
         return start;
     }
     let opened = stand(start.run, 0, e);

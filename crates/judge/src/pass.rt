@@ -17,6 +17,7 @@ use crate::index::bucket_of;
 use crate::index::is_clear;
 use crate::index::put;
 use crate::limits::Limits;
+use crate::limits::takes_all;
 use crate::read::entry_at;
 use crate::run::Run;
 use crate::run::count;
@@ -69,12 +70,17 @@ fn pass_with(pass: Pass, limits: Limits, clear: bool, e: Entry) -> Pass
     }
 }
 
-// Past the plain entries that follow, where a read stands and none is held.
+// Past the plain entries that follow, where the meter takes every type, a read stands and none is held.
 fn pass_plain(body: &[u8], limits: Limits, index: &mut [u8; Index::BUCKETS], pass: Pass) -> Pass
     requires { ⌜ (entryStart (limits .most) ≤ length (now body)) × (pass .run .count ≤ limits .most) × (pass .run ≡ runOf (entriesTo (pass .run .count) (now body))) ⌝ }
     requires { ⌜ Indexed (now body) (pass .run .count) (now index) ⌝ }
     ensures { λ r. ⌜ PassesTo (now (body .entry)) limits pass r × Indexed (now (body .entry)) (r .run .count) (now (index .exit)) ⌝ }
 {
+    let head = limits.head;
+    let profile = head.profile;
+    if !takes_all(profile) {
+        return pass;
+    }
     let from = pass.run;
     if pass.held | (from.standing == 0) {
         return pass;

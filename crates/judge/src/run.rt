@@ -16,8 +16,8 @@ ghost use Rattle.judge.specs.Inner.Plain.{PlainBody, Plain, RunsTo, Stan
 use crate::index::Index;
 use crate::index::bucket_of;
 use crate::index::is_clear;
+use crate::letters::is_plain_letter;
 use crate::limits::Limits;
-use crate::limits::has_letter;
 use crate::read::entry_at;
 use journal::order::is_standing;
 use journal::order::is_withdrawn;
@@ -120,7 +120,7 @@ fn is_plain_body(limits: Limits, last: u16, e: Entry) -> bool
     if limits.limit <= e.value {
         return false;
     }
-    if !has_letter(limits.letters, e.letter) {
+    if !is_plain_letter(e.letter) {
         return false;
     }
     let indicator = e.indicator as u16;

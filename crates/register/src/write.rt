@@ -40,7 +40,8 @@ fn put_meter(area: &mut [u8], head: Head)
     ensures { λ _. ⌜ now (area .exit) ≡ putMeter (now (area .entry)) head ⌝ }
 {
     let profile = head.profile;
-    put_byte(area, 0, meter_kind(profile));
+    let kind = meter_kind(profile);
+    put_byte(area, 0, kind);
     put_byte(area, 1, head.dials);
     put_long(area, 2, head.capacity);
 }

@@ -1,8 +1,8 @@
 -- A number with a bit for each of 64 places. A value's place is its remainder.
-use mathlib.Core.Bool.{Bool, _&&_}
+use mathlib.Core.Bool.{Bool}
 use Prim.Native.Nat.{ℕ, _^_, _/_, _%_}
 use lib.Bits.{bitOr}
-use lib.Dec.{eqb, leb}
+use lib.Dec.{eqb}
 
 -- the bit at a value's place
 unfoldable pub markOf : ℕ → ℕ → ℕ
@@ -13,7 +13,3 @@ isMarked marks v = eqb (markOf marks v) 1
 
 unfoldable pub markOn : ℕ → ℕ → ℕ
 markOn marks v = bitOr marks (2 ^ (v % 64))
-
--- a letter from 64 to 127
-unfoldable pub hasLetter : ℕ → ℕ → Bool
-hasLetter letters l = leb 64 l && (leb l 127 && isMarked letters l)

@@ -6,7 +6,6 @@ use Prim.Native.Nat.{ℕ, _-_, _≤_, _<_}
 use Rattle.terms.specs.declared.entry.Entry.{Entry}
 use Rattle.terms.specs.Entry.{isStanding}
 use Rattle.terms.specs.Letter.{isOpening}
-use Rattle.terms.specs.Profile.{takes}
 use Rattle.register.specs.declared.head.Head.{Head}
 use Rattle.register.specs.Bytes.{byteAt}
 use Rattle.register.specs.Entries.{entryStart}
@@ -49,12 +48,11 @@ pub record HasPassed (head : Head) (body : List ℕ) (day value : ℕ) (r : Pass
   pub withdrawn-is : r .pass .ordered ≡ true → r .withdrawn ≡ any (hasRead day value) (withdrawn (entriesTo (r .pass .run .count) body))
 
 -- a read that opens a journal, with no indicator
-pub record First (l : Limits) (e : Entry) : Type 0 where
+pub record First (limit : ℕ) (e : Entry) : Type 0 where
   pub stands : isStanding e ≡ true
   pub dated : e .day ≡ 0 → ⊥
-  pub small : e .value < l .limit
+  pub small : e .value < limit
   pub opening : isOpening (e .letter) ≡ true
-  pub taken : takes (l .head .profile) (e .letter) ≡ true
   pub indicator : e .indicator ≡ 0
   pub flag : e .flag ≡ 0
 

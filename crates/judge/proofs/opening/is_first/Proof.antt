@@ -26,12 +26,6 @@ is-opening-requires c κs = search needs
 returns-4 : tie.Need-returns-4
 returns-4 c = λ h. false-is h
 
-takes-requires : tie.Need-takes-requires
-takes-requires c κs = search needs
-
-returns-5 : tie.Need-returns-5
-returns-5 c = λ h. false-is h
-
 cast-indicator : tie.Need-cast-indicator
 cast-indicator c = search needs
 
@@ -44,12 +38,11 @@ mul-result c = search needs
 add-result : tie.Need-add-result
 add-result c = search needs
 
-returns-6 : tie.Need-returns-6
-returns-6 c =
-    let taken = c .before .before in
-    let opening = taken .before .before .before in
+returns-5 : tie.Need-returns-5
+returns-5 c =
+    let opening = c .before .before in
     let small = opening .before .before in
-    let dated = small .before .before .before in
+    let dated = small .before .before in
     let kind = dated .before .before in
     let e = kind .before .before .args .e in
     λ h.
@@ -59,7 +52,6 @@ returns-6 c =
       dated = dated .if2 .left;
       small = small .if3 .left;
       opening = sym (opening .before .is-opening .ensures) ∙ not-false _ (opening .if4 .left);
-      taken = sym (taken .before .takes .ensures) ∙ not-false _ (taken .if5 .left);
       indicator = omega arith;
       flag = omega arith;
     })
@@ -74,10 +66,8 @@ is-first-spec =
     returns-3
     is-opening-requires
     returns-4
-    takes-requires
-    returns-5
     cast-indicator
     cast-flag
     mul-result
     add-result
-    returns-6)
+    returns-5)

@@ -1,5 +1,4 @@
 -- Each test gives one part of what a plain body is.
-use mathlib.Core.Path.{sym, _∙_}
 use Prim.Native.Nat.{_+_, _*_, _≤_}
 use native.Mathlib.Omega.{arith}
 use borrow.Author.Tests.{leb-true, not-false}
@@ -14,8 +13,8 @@ returns c = λ h. false-is h
 returns-2 : tie.Need-returns-2
 returns-2 c = λ h. false-is h
 
-has-letter-requires : tie.Need-has-letter-requires
-has-letter-requires c κs = search needs
+is-plain-letter-requires : tie.Need-is-plain-letter-requires
+is-plain-letter-requires c κs = search needs
 
 returns-3 : tie.Need-returns-3
 returns-3 c = λ h. false-is h
@@ -46,7 +45,7 @@ returns-4 c =
     record {
       later = later .if1 .left;
       small = small .if2 .left;
-      letter = sym (letter .before .has-letter .ensures) ∙ not-false _ (letter .if3 .left);
+      letter = letter .before .is-plain-letter .ensures (not-false _ (letter .if3 .left));
       indicator = omega arith;
       flag = omega arith;
     })
@@ -57,7 +56,7 @@ is-plain-body-spec =
     (tie.spec
     returns
     returns-2
-    has-letter-requires
+    is-plain-letter-requires
     returns-3
     cast-indicator
     cast-flag
