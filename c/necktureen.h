@@ -27,10 +27,10 @@
 extern "C" {
 #endif
 
-#define NECKTUREEN_VERSION "0.4.1"
+#define NECKTUREEN_VERSION "0.5.0"
 #define NECKTUREEN_VERSION_MAJOR 0
-#define NECKTUREEN_VERSION_MINOR 4
-#define NECKTUREEN_VERSION_PATCH 1
+#define NECKTUREEN_VERSION_MINOR 5
+#define NECKTUREEN_VERSION_PATCH 0
 
 #define NECKTUREEN_REGISTER_BYTES 32768
 #define NECKTUREEN_AREA_BYTES 512
@@ -72,7 +72,8 @@ enum necktureen_number {
     NECKTUREEN_PLATE = 25,
     NECKTUREEN_SHEET = 26,
     NECKTUREEN_NO_FOLD = 27,
-    NECKTUREEN_OLDEST_KEPT = 28
+    NECKTUREEN_OLDEST_KEPT = 28,
+    NECKTUREEN_OTHER_TYPE = 29
 };
 
 /* The word of a number; "unknown" for one that is not in the table. */
@@ -106,7 +107,8 @@ static inline const char *necktureen_word(unsigned number) {
         "plate",
         "sheet",
         "no fold",
-        "oldest kept"
+        "oldest kept",
+        "other type"
     };
     return number < sizeof words / sizeof words[0] ? words[number] : "unknown";
 }
@@ -136,6 +138,11 @@ enum necktureen_indicator {
 /* Enrols a meter of 4 to 9 dials and a capacity in cubic metres a year. 0, 2, 3, 24 or 25. */
 uint8_t necktureen_enrol(uint8_t *reg, size_t length, uint16_t place, uint8_t dials, uint32_t capacity,
                          uint8_t *flag, int64_t *advance);
+
+/* Enrols a pseudo meter, for a site that has no dial, with the same arguments and the same answers. It takes reads of
+ * types I and F only; any other is answered 29. All else is as with any meter. */
+uint8_t necktureen_enrol_pseudo(uint8_t *reg, size_t length, uint16_t place, uint8_t dials, uint32_t capacity,
+                                uint8_t *flag, int64_t *advance);
 
 /* Submits a read: the day of submission, the read's day (1 is 1 January 2000), value, type letter, indicator and
  * re-read (0 or 1). Accepted, it answers the read's flag (1 if it was taken as a rollover) and its advance. */

@@ -11,6 +11,16 @@ extern "C" {
         advance: *mut i64,
     ) -> u8;
 
+    pub fn necktureen_enrol_pseudo(
+        register: *mut u8,
+        length: usize,
+        place: u16,
+        dials: u8,
+        capacity: u32,
+        flag: *mut u8,
+        advance: *mut i64,
+    ) -> u8;
+
     pub fn necktureen_submit(
         register: *mut u8,
         length: usize,

@@ -1,6 +1,6 @@
 //! A call as a value.
 
-use crate::{enrol, fold, indicator, report, submit, withdraw, Reply};
+use crate::{enrol, enrol_pseudo, fold, indicator, report, submit, withdraw, Reply};
 use core::fmt;
 
 /// The value that marks one that is missing: answered [`Number::Missing`](crate::Number::Missing).
@@ -62,6 +62,15 @@ pub enum Call {
         /// Which meter.
         place: u16,
     },
+    /// See [`enrol_pseudo`].
+    EnrolPseudo {
+        /// Where.
+        place: u16,
+        /// How many dials the meter would have, 4 to 9: its values are below 10 to this power.
+        dials: u8,
+        /// Its capacity in m³ a year, at least 1.
+        capacity: u32,
+    },
 }
 
 impl Call {
@@ -73,6 +82,9 @@ impl Call {
             Call::Withdraw { place, day, value } => Reply::Answer(withdraw(register, place, day, value)),
             Call::Report { place } => Reply::Report(report(register, place)),
             Call::Fold { place } => Reply::Answer(fold(register, place)),
+            Call::EnrolPseudo { place, dials, capacity } => {
+                Reply::Answer(enrol_pseudo(register, place, dials, capacity))
+            }
         }
     }
 
@@ -83,7 +95,8 @@ impl Call {
             | Call::Submit { place, .. }
             | Call::Withdraw { place, .. }
             | Call::Report { place }
-            | Call::Fold { place } => place,
+            | Call::Fold { place }
+            | Call::EnrolPseudo { place, .. } => place,
         }
     }
 }
@@ -99,6 +112,9 @@ impl fmt::Display for Call {
             Call::Withdraw { place, day, value } => write!(f, "withdraw place {place} day {day} value {value}"),
             Call::Report { place } => write!(f, "report place {place}"),
             Call::Fold { place } => write!(f, "fold place {place}"),
+            Call::EnrolPseudo { place, dials, capacity } => {
+                write!(f, "enrol-pseudo place {place} dials {dials} capacity {capacity}")
+            }
         }
     }
 }

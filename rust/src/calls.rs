@@ -15,6 +15,17 @@ pub fn enrol(register: &mut [u8], place: u16, dials: u8, capacity: u32) -> Answe
     Answer { number: Number::answered(number), flag, advance }
 }
 
+/// Enrols a pseudo meter, for a site that has no dial, with the same arguments and the same answers as [`enrol`]. It
+/// takes reads of types I and F only; any other is answered [`Number::OtherType`]. All else is as with any meter.
+pub fn enrol_pseudo(register: &mut [u8], place: u16, dials: u8, capacity: u32) -> Answer {
+    let (at, length) = (register.as_mut_ptr(), register.len());
+    let (mut flag, mut advance) = (0, 0);
+    // SAFETY: as for `enrol`.
+    let number =
+        unsafe { boundary::necktureen_enrol_pseudo(at, length, place, dials, capacity, &mut flag, &mut advance) };
+    Answer { number: Number::answered(number), flag, advance }
+}
+
 /// Submits a read of the meter at a place. Accepted, it answers the flag that the read was taken with, and how far the
 /// dials went since the last standing read.
 pub fn submit(register: &mut [u8], place: u16, read: Submission) -> Answer {

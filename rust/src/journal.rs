@@ -23,7 +23,7 @@ pub struct Read {
 #[derive(Clone, Copy, Debug, PartialEq, Eq)]
 #[non_exhaustive]
 pub enum Entry {
-    /// Kind 1, the meter: the first entry.
+    /// Kind 1, the meter: the first entry. That of a pseudo meter is [`Entry::Pseudo`].
     Meter {
         /// How many dials it has.
         dials: u8,
@@ -45,6 +45,13 @@ pub enum Entry {
         /// How many of them are flagged as rollovers.
         flagged: u16,
     },
+    /// Kind 7, a pseudo meter: the first entry, where [`Entry::Meter`] would be.
+    Pseudo {
+        /// How many dials it would have.
+        dials: u8,
+        /// Its capacity in m³ a year.
+        capacity: u32,
+    },
 }
 
 impl Entry {
@@ -56,6 +63,7 @@ impl Entry {
             3 => Entry::Withdrawn(Read::next(fields)?),
             4 => Entry::Held(Read::next(fields)?),
             5 => Entry::Carry { first: fields.four()?, folded: fields.two()?, flagged: fields.two()? },
+            7 => Entry::Pseudo { dials: fields.byte()?, capacity: fields.four()? },
             _ => return None,
         })
     }
@@ -68,6 +76,7 @@ impl Entry {
             Entry::Withdrawn(_) => 3,
             Entry::Held(_) => 4,
             Entry::Carry { .. } => 5,
+            Entry::Pseudo { .. } => 7,
         }
     }
 
@@ -79,6 +88,7 @@ impl Entry {
             Entry::Withdrawn(_) => "withdrawn",
             Entry::Held(_) => "held",
             Entry::Carry { .. } => "carry",
+            Entry::Pseudo { .. } => "pseudo meter",
         }
     }
 
@@ -86,7 +96,7 @@ impl Entry {
     pub fn read(&self) -> Option<Read> {
         match *self {
             Entry::Standing(read) | Entry::Withdrawn(read) | Entry::Held(read) => Some(read),
-            Entry::Meter { .. } | Entry::Carry { .. } => None,
+            Entry::Meter { .. } | Entry::Carry { .. } | Entry::Pseudo { .. } => None,
         }
     }
 }
@@ -104,12 +114,14 @@ impl Read {
 }
 
 impl fmt::Display for Entry {
-    /// As in `meter, 4 dials, capacity 5000`, `standing, day 1540, value 100, cyclic, true, flag 1` or
-    /// `carry, first value 9200, 47 folded, 2 flagged`.
+    /// As in `meter, 4 dials, capacity 5000`, `pseudo meter, 4 dials, capacity 5000`,
+    /// `standing, day 1540, value 100, cyclic, true, flag 1` or `carry, first value 9200, 47 folded, 2 flagged`.
     fn fmt(&self, f: &mut fmt::Formatter<'_>) -> fmt::Result {
         f.write_str(self.word())?;
         match *self {
-            Entry::Meter { dials, capacity } => write!(f, ", {dials} dials, capacity {capacity}"),
+            Entry::Meter { dials, capacity } | Entry::Pseudo { dials, capacity } => {
+                write!(f, ", {dials} dials, capacity {capacity}")
+            }
             Entry::Standing(read) | Entry::Withdrawn(read) | Entry::Held(read) => write!(f, ", {read}"),
             Entry::Carry { first, folded, flagged } => {
                 write!(f, ", first value {first}, {folded} folded, {flagged} flagged")

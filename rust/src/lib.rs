@@ -1,8 +1,11 @@
 //! Safe calls into the proved validator of water meter reads.
 //!
 //! A register is a slice of [`REGISTER_BYTES`] bytes that the caller lends, all zero at first. Each call is a function:
-//! [`enrol`], [`submit`], [`withdraw`], [`report`], [`fold`] and [`journal`]; or a value, a [`Call`], that can be kept,
-//! written to a day sheet and made. [`play`] plays a whole day sheet.
+//! [`enrol`], [`enrol_pseudo`], [`submit`], [`withdraw`], [`report`], [`fold`] and [`journal`]; or a value, a [`Call`],
+//! that can be kept, written to a day sheet and made. [`play`] plays a whole day sheet.
+//!
+//! A site that has no dial is enrolled by [`enrol_pseudo`]. Such a pseudo meter takes initial and final reads only, and is
+//! in all else a meter as any other.
 //!
 //! A journal has room for 50 entries. [`fold`] makes room: it keeps the last three standing reads and what the others
 //! come to, and a report stays the same.
@@ -33,7 +36,7 @@ mod sheet;
 
 pub use answer::{Answer, Reply, Report};
 pub use call::{Call, Submission, MISSING};
-pub use calls::{enrol, fold, journal, play, report, submit, withdraw};
+pub use calls::{enrol, enrol_pseudo, fold, journal, play, report, submit, withdraw};
 pub use date::{date_of, day_of, Date};
 pub use journal::{entries, Entries, Entry, Read};
 pub use number::{Number, UnknownNumber};

@@ -73,6 +73,7 @@ numbers! {
     Sheet = 26, "sheet", "unknown kind, cut body, or over 60,000 bytes";
     NoFold = 27, "no fold", "fewer than four reads stand besides the folded ones, or an F stands";
     OldestKept = 28, "oldest kept", "it is the oldest read that a fold kept";
+    OtherType = 29, "other type", "a pseudo meter takes types I and F only";
 }
 
 impl Number {

@@ -65,6 +65,9 @@ impl Call {
             }
             Call::Report { place } => SheetEntry::of(4, place)?,
             Call::Fold { place } => SheetEntry::of(5, place)?,
+            Call::EnrolPseudo { place, dials, capacity } => {
+                SheetEntry::of(6, place)?.and([dials]).and(capacity.to_le_bytes())
+            }
         })
     }
 
@@ -78,6 +81,7 @@ impl Call {
             3 => Call::Withdraw { place, day: fields.two()?, value: fields.four()? },
             4 => Call::Report { place },
             5 => Call::Fold { place },
+            6 => Call::EnrolPseudo { place, dials: fields.byte()?, capacity: fields.four()? },
             _ => return None,
         })
     }

@@ -85,7 +85,8 @@ fn a_register_is_kept_in_a_file() {
 #[test]
 fn header_crate_and_library_declare_the_same_functions() {
     let header = declarations::of_c(&text("c/necktureen.h"));
-    let names = ["date_of", "day_of", "enrol", "fold", "journal", "play", "report", "submit", "withdraw"];
+    let names =
+        ["date_of", "day_of", "enrol", "enrol_pseudo", "fold", "journal", "play", "report", "submit", "withdraw"];
     let names = names.map(|name| format!("necktureen_{name}"));
     assert_eq!(header.keys().cloned().collect::<Vec<_>>(), names);
     assert_eq!(declarations::of_rust(&text("rust/src/boundary.rs")), header);
@@ -194,6 +195,26 @@ fn a_fold_is_answered_where_c_says() {
         printf(\"%u\\n\", (unsigned)necktureen_journal(reg, sizeof reg, 7));\n    }\n    return 0;\n}\n";
     let lines = "0 accepted, 9 0 9, 9 0 9, 45\n27 no fold, 9 0 9, 9 0 9, 45\n2 misfit, 9 0 9, 9 0 9, 45\n";
     assert_eq!(printed("fold", code), lines);
+}
+
+/// The same of the enrolment of a pseudo meter, which then refuses a cyclic read and takes an initial one.
+#[test]
+fn a_pseudo_meter_is_enrolled_where_c_says() {
+    let code = "#include <stdio.h>\n#include \"necktureen.h\"\nstatic uint8_t reg[NECKTUREEN_REGISTER_BYTES];\n\
+        static void say(uint8_t number, const uint8_t *f, const int64_t *a) {\n    \
+        printf(\"%u %s, %u %u %u, %d %d %d, \", number, necktureen_word(number), f[0], f[1], f[2], (int)a[0], \
+        (int)a[1], (int)a[2]);\n    \
+        printf(\"%u %u\\n\", reg[512 * 7], (unsigned)necktureen_journal(reg, sizeof reg, 7));\n}\n\
+        int main(void) {\n    static const uint8_t dials[] = {3, 4, 4};\n    \
+        static const uint8_t letters[] = {NECKTUREEN_CYCLIC, NECKTUREEN_INITIAL};\n    \
+        for (int i = 0; i < 3; i++) {\n        uint8_t f[] = {9, 9, 9};\n        int64_t a[] = {9, 9, 9};\n        \
+        say(necktureen_enrol_pseudo(reg, sizeof reg, 7, dials[i], 5000, &f[1], &a[1]), f, a);\n    }\n    \
+        for (int i = 0; i < 2; i++) {\n        uint8_t f[] = {9, 9, 9};\n        int64_t a[] = {9, 9, 9};\n        \
+        say(necktureen_submit(reg, sizeof reg, 7, 1, 1, 1, letters[i], NECKTUREEN_NOT_SET, 0, &f[1], &a[1]), f, a);\n    \
+        }\n    return 0;\n}\n";
+    let lines = "25 plate, 9 0 9, 9 0 9, 0 0\n0 accepted, 9 0 9, 9 0 9, 7 6\n24 enrolled, 9 0 9, 9 0 9, 7 6\n\
+        29 other type, 9 0 9, 9 0 9, 7 6\n0 accepted, 9 0 9, 9 0 9, 7 16\n";
+    assert_eq!(printed("pseudo", code), lines);
 }
 
 /// An int that C would cut to a place is an error with -Wconversion; a constant that fits is none.

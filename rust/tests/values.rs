@@ -46,6 +46,7 @@ fn a_call_has_its_bytes_on_a_sheet() {
         (Call::Withdraw { place: 63, day: 0x1234, value: 0x89AB_CDEF }, &[3, 63, 0x34, 0x12, 0xEF, 0xCD, 0xAB, 0x89]),
         (Call::Report { place: 255 }, &[4, 255]),
         (Call::Fold { place: 64 }, &[5, 64]),
+        (Call::EnrolPseudo { place: 3, dials: 9, capacity: 0x89AB_CDEF }, &[6, 3, 9, 0xEF, 0xCD, 0xAB, 0x89]),
     ] {
         let entry = call.sheet_entry().expect("an entry");
         assert_eq!(&entry[..], bytes, "{call}");
@@ -88,7 +89,9 @@ fn a_sheet_ends_where_its_room_does() {
 /// What follows the last whole call is left, whether it is cut or of an unknown kind.
 #[test]
 fn a_fault_is_what_is_left_of_a_sheet() {
-    for fault in [&[0][..], &[9, 0], &[1], &[1, 0, 4, 1, 0, 0], &[2, 0, 0, 0], &[4], &[5], &[255; 20]] {
+    for fault in
+        [&[0][..], &[9, 0], &[1], &[1, 0, 4, 1, 0, 0], &[2, 0, 0, 0], &[4], &[5], &[6, 0, 4, 1, 0, 0], &[255; 20]]
+    {
         let sheet = [&[4, 7, 4, 8][..], fault].concat();
         let mut read = calls(&sheet);
         let places: Vec<u16> = read.by_ref().map(|call| call.place()).collect();
@@ -100,7 +103,7 @@ fn a_fault_is_what_is_left_of_a_sheet() {
 #[test]
 fn text_that_does_not_fit_is_cut_and_the_calls_are_made() {
     let sheet: Vec<u8> = each_call(5).iter().filter_map(Call::sheet_entry).flat_map(|entry| entry.to_vec()).collect();
-    let whole = b"0 0 0\n13 0 0\n22 0 0\n0 0 0 0\n27 0 0\n";
+    let whole = b"0 0 0\n13 0 0\n22 0 0\n0 0 0 0\n27 0 0\n24 0 0\n";
     for room in 0..=whole.len() + 1 {
         let (mut register, mut text) = (zeros(), vec![0xA5; room]);
         assert_eq!(guarded(&mut register, |r| play(&sheet, r, &mut text)), whole.len());
@@ -158,6 +161,22 @@ fn a_carry_is_read_after_the_meter() {
     assert_eq!(carry.to_string(), "carry, first value 9999, 65534 folded, 258 flagged");
 }
 
+/// With a carry and without one.
+#[test]
+fn a_pseudo_meter_is_read_where_the_meter_is() {
+    let head = Entry::Pseudo { dials: 9, capacity: 0x89AB_CDEF };
+    let plate = [7, 9, 0xEF, 0xCD, 0xAB, 0x89];
+    let initial = entry(STANDING, 1000, 9200, b'I', 0, 0);
+    let stands = Read { day: 1000, value: 9200, letter: letter::INITIAL, indicator: indicator::NOT_SET, flag: 0 };
+    let carried = [&plate[..], &carry(7, 8, 1)].concat();
+    let expected = [head, Entry::Carry { first: 7, folded: 8, flagged: 1 }, Entry::Standing(stands)];
+    let found = |area: &[u8]| entries(journal(&with_area(9, area), 9)).collect::<Vec<Entry>>();
+    assert_eq!(found(&area_of(&carried, &[initial])), expected);
+    assert_eq!(found(&area_of(&plate, &[initial])), [head, Entry::Standing(stands)]);
+    assert_eq!((head.kind(), head.word(), head.read()), (7, "pseudo meter", None));
+    assert_eq!(head.to_string(), "pseudo meter, 9 dials, capacity 2309737967");
+}
+
 /// Any bytes are read without a stop; a refused report leaves nothing to read.
 #[test]
 fn any_bytes_are_read_as_far_as_they_are_entries() {
@@ -166,6 +185,8 @@ fn any_bytes_are_read_as_far_as_they_are_entries() {
     assert_eq!(entries(&[1, 4, 0, 0, 0]).count(), 0);
     assert_eq!(entries(&[1; 512]).count(), 85);
     assert_eq!(entries(&[5; 512]).count(), 56);
+    assert_eq!(entries(&[7; 512]).count(), 85);
+    assert_eq!(entries(&[7; 5]).count(), 0);
     assert_eq!(entries(&[5; 8]).count(), 0);
     let whole = area(&[entry(STANDING, 1, 1, b'I', 0, 0), entry(9, 1, 1, b'I', 0, 0)]);
     assert_eq!(entries(&whole).count(), 2);

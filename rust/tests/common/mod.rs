@@ -110,14 +110,19 @@ pub fn read(day: u16, letter: u8, value: u32) -> Submission {
 }
 
 /// One call of each kind on a place.
-pub fn each_call(place: u16) -> [Call; 5] {
+pub fn each_call(place: u16) -> [Call; 6] {
     [
         Call::Enrol { place, dials: 4, capacity: 1 },
         Call::Submit { place, read: read(300, letter::CYCLIC, 30) },
         Call::Withdraw { place, day: 100, value: 10 },
         Call::Report { place },
         Call::Fold { place },
+        Call::EnrolPseudo { place, dials: 4, capacity: 1 },
     ]
+}
+
+pub fn is_enrolment(call: &Call) -> bool {
+    matches!(call, Call::Enrol { .. } | Call::EnrolPseudo { .. })
 }
 
 /// Holds a call to a number with zeros beside it and to changing no byte, both made and played from a sheet.
@@ -143,7 +148,7 @@ pub fn is_damaged(area: &[u8], clause: &str) {
         let register = with_area(place, area);
         for call in each_call(place) {
             // An enrolment asks only whether the area is all zero.
-            let number = if matches!(call, Call::Enrol { .. }) { Number::Enrolled } else { Number::Damaged };
+            let number = if is_enrolment(&call) { Number::Enrolled } else { Number::Damaged };
             refuses(&register, call, number, clause);
         }
         assert!(journal(&register, place).is_empty(), "{clause}");
