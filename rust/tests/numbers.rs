@@ -28,7 +28,7 @@ fn every_number_is_answered() {
     let call = Call::Submit { place: 0, read: read(300, b'C', 60) };
     for (register, number) in [
         (vec![0; REGISTER_BYTES - 1], Number::Misfit),
-        (with_area(0, &[7; 512]), Number::Damaged),
+        (with_area(0, &[9; 512]), Number::Damaged),
         (full(), Number::Full),
     ] {
         refuses(&register, call, number, "by hand");

@@ -56,9 +56,18 @@ fn the_year_of_the_demands() {
 
 /// Each bad line, and what is said of it.
 const FAULTS: &[(&str, &str)] = &[
-    ("enroll place 0", "'enroll' is not a call; a line begins with one of: enrol, submit, withdraw, report, fold"),
+    (
+        "enroll place 0",
+        "'enroll' is not a call; a line begins with one of: enrol, enrol-pseudo, submit, withdraw, report, fold",
+    ),
     ("report", "report lacks 'place'; a whole line is: report place 0"),
     ("fold", "fold lacks 'place'; a whole line is: fold place 0"),
+    (
+        "enrol-pseudo place 0 dials 4",
+        "enrol-pseudo lacks 'capacity'; a whole line is: enrol-pseudo place 0 dials 4 capacity 5000",
+    ),
+    ("enrol-pseudo place 0 type I", "'type' is not a field of enrol-pseudo; it has: place, dials, capacity"),
+    ("enrol-pseudo place 0 dials 256 capacity 1", "dials is a whole number from 0 to 255, not '256'"),
     ("fold place 0 day 1", "'day' is not a field of fold; it has: place"),
     ("report place", "place has no value after it"),
     ("report place 0 place 1", "place is given twice"),

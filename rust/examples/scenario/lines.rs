@@ -27,6 +27,16 @@ pub const FORMS: &[Form] = &[
         },
     },
     Form {
+        word: "enrol-pseudo",
+        fields: &["place", "dials", "capacity"],
+        optional: &[],
+        example: "enrol-pseudo place 0 dials 4 capacity 5000",
+        call: |fields| {
+            let (place, dials) = (fields.two("place")?, fields.byte("dials")?);
+            Ok(Call::EnrolPseudo { place, dials, capacity: fields.four("capacity")? })
+        },
+    },
+    Form {
         word: "submit",
         fields: &["place", "submitted", "day", "type", "value"],
         optional: &["indicator", "re-read"],
