@@ -18,6 +18,7 @@ pub fn judge(register: &[u8], place: u16) -> Result<Vec<u8>, Number> {
     }
     let (folded, kept) = standing.split_at(standing.len() - KEPT);
     let start = AREA_BYTES * usize::from(place);
+    // The meter's entry stays as it is, of either kind.
     let mut area = register[start..start + METER_BYTES].to_vec();
     area.resize(METER_BYTES + CARRY_BYTES, 0);
     write_carry(&mut area[METER_BYTES..], carry_with(journal.carry, folded));

@@ -1,5 +1,6 @@
 //! A journal, and what the checks ask of it. Folded reads are in the carry alone, and nothing here finds them.
 
+use super::profile::Profile;
 use super::register::{read_entry, CARRY_BYTES, ENTRY_BYTES, METER_BYTES};
 use super::register::{HELD, MOST_ENTRIES, MOST_ENTRIES_AFTER_CARRY, STANDING, WITHDRAWN};
 use super::POWERS;
@@ -34,9 +35,10 @@ pub struct Carry {
     pub flagged: u16,
 }
 
-/// An area that starts with a meter: the plate, the carry if one is right after it, and the bytes of the entries that
-/// follow.
+/// An area that starts with a meter: its profile and plate, the carry if one is right after it, and the bytes of the
+/// entries that follow.
 pub struct Journal<'a> {
+    pub profile: Profile,
     pub dials: u8,
     pub capacity: u32,
     pub carry: Option<Carry>,

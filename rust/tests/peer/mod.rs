@@ -1,5 +1,5 @@
-//! Document 01, with the leap years, the folds and the same-day search of document 02, written a second time, by hand and
-//! from the papers alone, for the tests and the benchmark.
+//! Document 01, with the leap years, the folds, the same-day search and the pseudo meters of document 02, written a second
+//! time, by hand and from the papers alone, for the tests and the benchmark.
 //!
 //! It shares with the library the types of a submission, of a date and of the answers and nothing else: register,
 //! rules, order of checks, calendar and day sheet are its own. Where the paper leaves room, a comment says how it is
@@ -9,6 +9,7 @@
 pub mod calendar;
 mod fold;
 mod journal;
+mod profile;
 mod register;
 mod search;
 mod sheet;
@@ -20,14 +21,24 @@ pub use search::Search;
 pub use sheet::{play, run};
 
 use necktureen::{Answer, Number, Report, Submission};
+use profile::Profile;
 use register::{all_zero, area_range, open, plate_fits, write_entry};
-use register::{AREA_BYTES, ENTRY_BYTES, HELD, METER, METER_BYTES, STANDING, WITHDRAWN};
+use register::{AREA_BYTES, ENTRY_BYTES, HELD, METER_BYTES, STANDING, WITHDRAWN};
 
 const POWERS: [i64; 10] = [1, 10, 100, 1_000, 10_000, 100_000, 1_000_000, 10_000_000, 100_000_000, 1_000_000_000];
 
 // ---- The calls ----
 
 pub fn enrol(register: &mut [u8], place: u16, dials: u8, capacity: u32) -> Answer {
+    enrol_as(Profile::Ordinary, register, place, dials, capacity)
+}
+
+pub fn enrol_pseudo(register: &mut [u8], place: u16, dials: u8, capacity: u32) -> Answer {
+    enrol_as(Profile::Pseudo, register, place, dials, capacity)
+}
+
+/// The checks are the same, and so is the body.
+fn enrol_as(profile: Profile, register: &mut [u8], place: u16, dials: u8, capacity: u32) -> Answer {
     let range = match area_range(register, place) {
         Ok(range) => range,
         Err(number) => return refused(number),
@@ -39,7 +50,7 @@ pub fn enrol(register: &mut [u8], place: u16, dials: u8, capacity: u32) -> Answe
     if !plate_fits(dials, capacity) {
         return refused(Number::Plate);
     }
-    area[0] = METER;
+    area[0] = profile.kind();
     area[1] = dials;
     area[2..METER_BYTES].copy_from_slice(&capacity.to_le_bytes());
     Answer { number: Number::Accepted, flag: 0, advance: 0 }

@@ -1,6 +1,7 @@
 //! The register: where an area lies, and an area as plate, carry and entries.
 
 use super::journal::{Carry, Entry, Journal, Read};
+use super::profile::Profile;
 use necktureen::{Number, Submission};
 use std::ops::Range;
 
@@ -12,7 +13,6 @@ pub const ENTRY_BYTES: usize = 10;
 pub const MOST_ENTRIES: usize = 50;
 pub const MOST_ENTRIES_AFTER_CARRY: usize = 49;
 
-pub const METER: u8 = 1;
 pub const STANDING: u8 = 2;
 pub const WITHDRAWN: u8 = 3;
 pub const HELD: u8 = 4;
@@ -45,13 +45,11 @@ pub fn open(register: &[u8], place: u16) -> Result<Journal<'_>, Number> {
 /// Parts an area into plate, carry, entries and zeros. A journal ends at its first zero kind byte, and from there on
 /// every byte is zero; so a kind byte too near the end for its body, or after the most entries, is damage.
 fn split(area: &[u8]) -> Option<Journal<'_>> {
-    if area[0] != METER {
-        return None;
-    }
+    let profile = Profile::of_kind(area[0])?;
     let (plate, after_plate) = area.split_at(METER_BYTES);
     let carry = (after_plate[0] == CARRY).then(|| read_carry(after_plate));
     let capacity = u32::from_le_bytes([plate[2], plate[3], plate[4], plate[5]]);
-    let mut journal = Journal { dials: plate[1], capacity, carry, entries: &[] };
+    let mut journal = Journal { profile, dials: plate[1], capacity, carry, entries: &[] };
     let body = &area[journal.start()..];
     let may_follow = body.chunks_exact(ENTRY_BYTES).take(journal.most_entries());
     let count = may_follow.take_while(|entry| entry[0] != 0).count();

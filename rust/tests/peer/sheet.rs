@@ -1,7 +1,7 @@
 //! The day sheet.
 
 use super::register::REGISTER_BYTES;
-use super::{enrol, fold, report, submit, withdraw};
+use super::{enrol, enrol_pseudo, fold, report, submit, withdraw};
 use necktureen::{Report, Submission};
 use std::fmt::Write;
 
@@ -33,7 +33,7 @@ pub fn run(sheet: &[u8]) -> Vec<u8> {
 
 fn body_length(kind: u8) -> Option<usize> {
     match kind {
-        1 => Some(6),
+        1 | 6 => Some(6),
         2 => Some(12),
         3 => Some(7),
         4 | 5 => Some(1),
@@ -48,7 +48,8 @@ fn play_call(register: &mut [u8], kind: u8, body: &[u8], lines: &mut String) {
         2 => submit(register, place, submission(body)),
         3 => withdraw(register, place, two_bytes(body, 1), four_bytes(body, 3)),
         4 => return print_report(report(register, place), lines),
-        _ => fold(register, place),
+        5 => fold(register, place),
+        _ => enrol_pseudo(register, place, body[1], four_bytes(body, 2)),
     };
     writeln!(lines, "{} {} {}", answer.number as u8, answer.flag, answer.advance).expect("a string takes every line");
 }

@@ -1,6 +1,6 @@
 //! When a journal is sound.
 
-use super::journal::{is_opening, Entry, Journal, LETTERS, NOT_SET, TRUE};
+use super::journal::{is_opening, Entry, Journal, NOT_SET, TRUE};
 use super::register::{plate_fits, HELD, STANDING, WITHDRAWN};
 
 const LETTERS_HELD: &[u8] = b"CURTSFXE";
@@ -16,13 +16,14 @@ impl Journal<'_> {
             && self.held_is_sound()
     }
 
-    /// The ranges of the fields, alike in all three kinds. The flag is tied to nothing here.
+    /// The ranges of the fields, alike in all three kinds, and so are the types: a pseudo meter's journal holds no other
+    /// than it takes, withdrawn or held neither. The flag is tied to nothing here.
     fn entry_fits(&self, entry: Entry) -> bool {
         let read = entry.read;
         (entry.kind == STANDING || entry.kind == WITHDRAWN || entry.kind == HELD)
             && read.day >= 1
             && i64::from(read.value) < self.turn()
-            && LETTERS.contains(&read.letter)
+            && self.profile.takes(read.letter)
             && read.indicator <= TRUE
             && read.flag <= 1
             && (read.indicator == NOT_SET || !is_opening(read.letter))

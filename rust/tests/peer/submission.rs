@@ -33,7 +33,9 @@ pub struct Verdict {
 
 pub fn judge(register: &[u8], place: u16, read: &Submission) -> Result<Verdict, Number> {
     let journal = open(register, place)?;
-    check_fields(&journal, read)?;
+    check_content(&journal, read)?;
+    check_type(&journal, read)?;
+    check_date(read)?;
     check_withdrawn(&journal, read)?;
     check_same_day(&journal, read)?;
     check_sequence(&journal, read)?;
@@ -48,8 +50,8 @@ pub fn judge(register: &[u8], place: u16, read: &Submission) -> Result<Verdict, 
     Ok(Verdict { number, flag, advance, at: journal.end_without_held() })
 }
 
-/// 5, 6 and 7.
-fn check_fields(journal: &Journal, read: &Submission) -> Result<(), Number> {
+/// 5 and 6. A type is unknown here if no meter takes it.
+fn check_content(journal: &Journal, read: &Submission) -> Result<(), Number> {
     if read.value == UNPOPULATED {
         return Err(Number::Missing);
     }
@@ -57,6 +59,20 @@ fn check_fields(journal: &Journal, read: &Submission) -> Result<(), Number> {
     if !known || i64::from(read.value) >= journal.turn() {
         return Err(Number::Content);
     }
+    Ok(())
+}
+
+/// 29.
+fn check_type(journal: &Journal, read: &Submission) -> Result<(), Number> {
+    if journal.profile.takes(read.letter) {
+        Ok(())
+    } else {
+        Err(Number::OtherType)
+    }
+}
+
+/// 7.
+fn check_date(read: &Submission) -> Result<(), Number> {
     if read.day == 0 || read.day > read.submitted {
         return Err(Number::Date);
     }

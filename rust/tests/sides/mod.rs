@@ -74,13 +74,14 @@ impl Pair {
 }
 
 pub fn peer_reply(register: &mut [u8], call: &Call) -> Reply {
-    use peer::{enrol, fold, report, submit, withdraw};
+    use peer::{enrol, enrol_pseudo, fold, report, submit, withdraw};
     match *call {
         Call::Enrol { place, dials, capacity } => Reply::Answer(enrol(register, place, dials, capacity)),
         Call::Submit { place, read } => Reply::Answer(submit(register, place, read)),
         Call::Withdraw { place, day, value } => Reply::Answer(withdraw(register, place, day, value)),
         Call::Report { place } => Reply::Report(report(register, place)),
         Call::Fold { place } => Reply::Answer(fold(register, place)),
+        Call::EnrolPseudo { place, dials, capacity } => Reply::Answer(enrol_pseudo(register, place, dials, capacity)),
         other => panic!("the peer has no call {other}"),
     }
 }
