@@ -9,6 +9,7 @@ use necktureen::{report, Answer, Call, Number, Reply, Report, AREA_BYTES, REGIST
 /// What a meter's calls and answers come to, and never its bytes.
 #[derive(Default)]
 struct Ledger {
+    is_pseudo: bool,
     dials: u32,
     standing: Vec<(u16, u32)>,
     withdrawn: Vec<(u16, u32)>,
@@ -24,7 +25,9 @@ impl Ledger {
         let Reply::Answer(Answer { number: Number::Accepted, flag, advance }) = reply else { return };
         match call {
             Call::Enrol { dials, .. } => self.dials = u32::from(dials),
+            Call::EnrolPseudo { dials, .. } => (self.is_pseudo, self.dials) = (true, u32::from(dials)),
             Call::Submit { read, .. } => {
+                assert!(!self.is_pseudo || b"IF".contains(&read.letter), "{read} on a pseudo meter");
                 self.standing.push((read.day, read.value));
                 self.advances += advance;
                 self.flags += i64::from(flag);
@@ -98,7 +101,7 @@ fn run_a(seed: u64) -> (Vec<u8>, Vec<(Call, Reply)>) {
 
 #[test]
 fn two_runs_agree_at_every_meter() {
-    let (mut folded, mut folded_again) = (0, 0);
+    let (mut folded, mut folded_again, mut pseudo) = (0, 0, 0);
     for seed in 0..60 {
         let (a, exchanges) = run_a(seed);
         for meter in [0, 1, 2, 31, 63] {
@@ -119,7 +122,9 @@ fn two_runs_agree_at_every_meter() {
             in_a.is_reported(report(&a, meter));
             folded += usize::from(in_a.folds > 0);
             folded_again += usize::from(in_a.folds > 1);
+            pseudo += usize::from(in_a.is_pseudo && !in_a.standing.is_empty() && !in_a.withdrawn.is_empty());
         }
     }
     assert!(folded >= 50 && folded_again >= 25, "{folded} meters were folded, {folded_again} of them again");
+    assert!(pseudo >= 50, "{pseudo} pseudo meters have a standing read and a withdrawn one");
 }

@@ -8,11 +8,32 @@ pub const METER_BYTES: usize = 6;
 pub const CARRY_BYTES: usize = 9;
 pub const ENTRY_BYTES: usize = 10;
 
-pub fn write_meter(random: &mut Random, area: &mut [u8]) -> i64 {
+/// What the reads of a journal have to fit.
+#[derive(Clone, Copy)]
+pub struct Head {
+    pub is_pseudo: bool,
+    /// 10^n.
+    pub turn: i64,
+}
+
+impl Head {
+    /// The types that it takes.
+    fn letters(self) -> &'static [u8] {
+        if self.is_pseudo {
+            b"IF"
+        } else {
+            b"IOFCURTSXYE"
+        }
+    }
+}
+
+/// One in three is a pseudo meter.
+pub fn write_meter(random: &mut Random, area: &mut [u8]) -> Head {
     let (dials, capacity) = plate(random);
-    area[..2].copy_from_slice(&[1, dials]);
+    let is_pseudo = random.once_in(3);
+    area[..2].copy_from_slice(&[if is_pseudo { 7 } else { 1 }, dials]);
     area[2..6].copy_from_slice(&capacity.to_le_bytes());
-    10_i64.pow(u32::from(dials))
+    Head { is_pseudo, turn: 10_i64.pow(u32::from(dials)) }
 }
 
 pub fn write_read(entry: &mut [u8], kind: u8, read: Read, flag: u8) {
@@ -22,30 +43,30 @@ pub fn write_read(entry: &mut [u8], kind: u8, read: Read, flag: u8) {
     entry[7..10].copy_from_slice(&[read.letter, read.indicator, flag]);
 }
 
-pub fn any_read(random: &mut Random, turn: i64) -> Read {
-    let letter = random.pick(b"IOFCURTSXYE");
+pub fn any_read(random: &mut Random, head: Head) -> Read {
+    let letter = random.pick(head.letters());
     let indicator = if letter == b'I' || letter == b'O' { 0 } else { random.pick(&[0, 1, 2]) };
-    let value = random.between(0, turn - 1) as u32;
+    let value = random.between(0, head.turn - 1) as u32;
     Read { day: random.between(1, 200) as u16, value, letter, indicator }
 }
 
 /// A journal meant to be sound, also one that no list of calls leads to. One in three has a carry.
 pub fn sound_area(random: &mut Random, area: &mut [u8]) {
-    let turn = write_meter(random, area);
+    let head = write_meter(random, area);
     let is_carried = random.once_in(3);
-    let style = Style::any(random, turn, is_carried);
+    let style = Style::any(random, head, is_carried);
     let (most, start) = if is_carried { (49, METER_BYTES + CARRY_BYTES) } else { (50, METER_BYTES) };
     let any_count = random.index(most + 1);
     let count = random.pick(&[0, 1, 2, 3, 4, 5, 10, 25, most - 2, most - 1, most, any_count]);
     let first = write_entries(random, &style, &mut area[start..], count.max(usize::from(is_carried)));
     if is_carried {
-        write_carry(random, turn, &mut area[METER_BYTES..], first.map_or(2, |read| read.day));
+        write_carry(random, head.turn, &mut area[METER_BYTES..], first.map_or(2, |read| read.day));
     }
 }
 
 /// How the reads of a journal follow each other.
 struct Style {
-    turn: i64,
+    head: Head,
     is_carried: bool,
     pace: i64,
     steady: bool,
@@ -57,11 +78,11 @@ struct Style {
 }
 
 impl Style {
-    fn any(random: &mut Random, turn: i64, is_carried: bool) -> Style {
+    fn any(random: &mut Random, head: Head, is_carried: bool) -> Style {
         Style {
-            turn,
+            head,
             is_carried,
-            pace: random.between(0, turn / 11),
+            pace: random.between(0, head.turn / 11),
             steady: random.once_in(2),
             one_bucket: random.once_in(4),
             late: random.once_in(8),
@@ -82,17 +103,17 @@ impl Style {
 
     /// The read after the last one, if any, and whether it is flagged.
     fn next(&self, random: &mut Random, last: Option<Read>) -> (Read, u8) {
-        let day = self.next_day(random, last);
+        let (day, turn) = (self.next_day(random, last), self.head.turn);
         let value = match last {
-            None => random.between(self.turn / 2, self.turn - 1),
+            None => random.between(turn / 2, turn - 1),
             Some(read) if self.steady => i64::from(read.value) + self.pace,
-            Some(read) => i64::from(read.value) + random.between(0, self.turn / 12),
+            Some(read) => i64::from(read.value) + random.between(0, turn / 12),
         };
-        let flag = u8::from(value >= self.turn && !random.once_in(4));
-        let value = if random.once_in(20) { random.between(0, self.turn - 1) } else { value % self.turn };
-        let mut read = Read { day: day as u16, value: value as u32, ..any_read(random, self.turn) };
+        let flag = u8::from(value >= turn && !random.once_in(4));
+        let value = if random.once_in(20) { random.between(0, turn - 1) } else { value % turn };
+        let mut read = Read { day: day as u16, value: value as u32, ..any_read(random, self.head) };
         if self.one_bucket {
-            let near = value.min(self.turn - 1280) + 256 * random.between(0, 3);
+            let near = value.min(turn - 1280) + 256 * random.between(0, 3);
             read.value = in_first_bucket(read.day, near as u32);
         }
         (read, flag)
@@ -102,7 +123,41 @@ impl Style {
     /// have one day.
     fn misread(&self, random: &mut Random, value: u32) -> u32 {
         let away = if random.once_in(60) { 0 } else { random.pick(&[1, 256, 256, 512, 768]) };
-        ((i64::from(value) + away) % self.turn) as u32
+        ((i64::from(value) + away) % self.head.turn) as u32
+    }
+
+    /// Whether one more read may stand. On a pseudo meter a final one alone follows the first, and none where one is to be
+    /// held.
+    fn may_stand(&self, last: Option<Read>, final_stands: bool) -> bool {
+        !self.head.is_pseudo || last.is_none() || !final_stands && !self.has_held
+    }
+
+    /// The types that a held read may have, if any.
+    fn held_letters(&self, final_stands: bool) -> &'static [u8] {
+        match (self.head.is_pseudo, final_stands) {
+            (true, true) => b"",
+            (true, false) => b"F",
+            (false, true) => b"CURTSXE",
+            (false, false) => b"CURTSFXE",
+        }
+    }
+
+    /// The type of the first standing read where there is no carry.
+    fn first_letter(&self, random: &mut Random) -> u8 {
+        if self.head.is_pseudo {
+            b'I'
+        } else {
+            random.pick(b"IO")
+        }
+    }
+
+    /// The type of a standing read after the first.
+    fn later_letter(&self, random: &mut Random, final_stands: bool) -> u8 {
+        if self.head.is_pseudo || !final_stands && random.once_in(30) {
+            b'F'
+        } else {
+            random.pick(b"CCURTSXYE")
+        }
     }
 }
 
@@ -113,14 +168,15 @@ fn write_entries(random: &mut Random, style: &Style, body: &mut [u8], count: usi
     for (position, entry) in body.chunks_exact_mut(ENTRY_BYTES).take(count).enumerate() {
         let is_last = position + 1 == count;
         let (mut read, mut flag) = style.next(random, last);
-        if style.has_held && is_last && last.is_some() {
-            read.letter = if final_stands { random.pick(b"CURTSXE") } else { random.pick(b"CURTSFXE") };
+        let held_letters = style.held_letters(final_stands);
+        if style.has_held && is_last && last.is_some() && !held_letters.is_empty() {
+            read.letter = random.pick(held_letters);
             write_read(entry, 4, read, flag);
             break;
         }
         // A carry asks for a standing read.
         let must_stand = style.is_carried && is_last && last.is_none();
-        if !must_stand && random.once_in(style.withdrawn_in) {
+        if !must_stand && (random.once_in(style.withdrawn_in) || !style.may_stand(last, final_stands)) {
             let misread = Read { value: style.misread(random, read.value), ..read };
             write_read(entry, 3, misread, random.pick(&[0, 0, 1]));
             continue;
@@ -128,9 +184,8 @@ fn write_entries(random: &mut Random, style: &Style, body: &mut [u8], count: usi
         match last {
             // Any type and flag will do after a carry.
             None if style.is_carried => flag = random.pick(&[0, 1]),
-            None => (read.letter, read.indicator, flag) = (random.pick(b"IO"), 0, 0),
-            Some(_) if final_stands || !random.once_in(30) => read.letter = random.pick(b"CCURTSXYE"),
-            Some(_) => read.letter = b'F',
+            None => (read.letter, read.indicator, flag) = (style.first_letter(random), 0, 0),
+            Some(_) => read.letter = style.later_letter(random, final_stands),
         }
         write_read(entry, 2, read, flag);
         final_stands |= read.letter == b'F';

@@ -9,6 +9,7 @@ pub struct Read {
 }
 
 pub struct Meter {
+    pub is_pseudo: bool,
     /// 10^n; of a damaged plate any power will do.
     pub turn: i64,
     pub capacity: i64,
@@ -29,6 +30,7 @@ pub fn head_bytes(area: &[u8]) -> usize {
 
 pub fn look_at(area: &[u8]) -> Meter {
     let mut meter = Meter {
+        is_pseudo: area[0] == 7,
         turn: 10_i64.pow(u32::from(area[1]).clamp(4, 9)),
         capacity: i64::from(u32::from_le_bytes([area[2], area[3], area[4], area[5]])),
         is_carried: head_bytes(area) > 6,
@@ -62,11 +64,15 @@ impl Meter {
         Some((advance, (i64::from(last.day) - i64::from(before.day)).max(1)))
     }
 
+    pub fn final_stands(&self) -> bool {
+        self.standing.iter().any(|(read, _)| read.letter == b'F')
+    }
+
     /// One call in so many is a fold. Some meters are folded as soon as four reads stand, some now and then, some when they
     /// are nearly full, and some hardly ever, so that full journals are met too.
     pub fn calls_to_a_fold(&self) -> u64 {
         let entries = self.standing.len() + self.withdrawn.len();
-        let is_foldable = self.standing.len() > 3 && self.standing.iter().all(|(read, _)| read.letter != b'F');
+        let is_foldable = self.standing.len() > 3 && !self.final_stands();
         match self.capacity / 8 % 4 {
             0 if is_foldable => 5,
             1 if is_foldable => 25,

@@ -1,7 +1,8 @@
 //! Random calls and random registers for the comparison.
 //!
 //! A call is picked with an eye on the register that it meets, so that lists get past the first checks and reach deep
-//! states: long journals, rollovers, held reads, withdrawals, folds. What an answer should be is not decided here.
+//! states: long journals, rollovers, held reads, withdrawals, folds, pseudo meters' reads. What an answer should be is not
+//! decided here.
 
 // Each test uses its part.
 #![allow(dead_code, unused_imports)]
@@ -59,6 +60,8 @@ fn call_on(random: &mut Random, idle: &mut Idle, place: u16, meter: &Meter) -> C
         3..=7 => withdrawal(random, place, meter),
         // Down to the oldest kept read, and on.
         _ if meter.is_carried && meter.standing.len() <= 3 && random.once_in(3) => withdrawal(random, place, meter),
+        // Nothing follows a pseudo meter's final read until it is withdrawn.
+        _ if meter.is_pseudo && meter.final_stands() && random.once_in(3) => withdrawal(random, place, meter),
         _ => {
             let idle = idle.of(random, place);
             Call::Submit { place, read: submission(random, idle, meter) }
@@ -66,12 +69,18 @@ fn call_on(random: &mut Random, idle: &mut Idle, place: u16, meter: &Meter) -> C
     }
 }
 
+/// One in three is of a pseudo meter.
 fn enrolment(random: &mut Random, place: u16) -> Call {
-    let (dials, capacity) = plate(random);
+    let (mut dials, mut capacity) = plate(random);
     match random.index(12) {
-        0 => Call::Enrol { place, dials: random.pick(&[0, 3, 10, 255]), capacity },
-        1 => Call::Enrol { place, dials, capacity: 0 },
-        _ => Call::Enrol { place, dials, capacity },
+        0 => dials = random.pick(&[0, 3, 10, 255]),
+        1 => capacity = 0,
+        _ => {}
+    }
+    if random.once_in(3) {
+        Call::EnrolPseudo { place, dials, capacity }
+    } else {
+        Call::Enrol { place, dials, capacity }
     }
 }
 

@@ -87,7 +87,11 @@ fn opening_read(random: &mut Random, meter: &Meter) -> Read {
         1 => random.between(0, meter.turn / 10),
         _ => random.between(meter.turn * 3 / 4, meter.turn - 1),
     };
-    let letter = if random.once_in(12) { letter(random) } else { random.pick(b"IO") };
+    let letter = match meter.is_pseudo {
+        true => pseudo_letter(random, b'I'),
+        false if random.once_in(12) => letter(random),
+        false => random.pick(b"IO"),
+    };
     let indicator = if random.once_in(12) { random.pick(&[1, 2]) } else { 0 };
     Read { day: day as u16, value: value as u32, letter, indicator }
 }
@@ -109,7 +113,8 @@ fn following_read(random: &mut Random, meter: &Meter, last: Read) -> Read {
         _ => random.pick(&[0, 1, 2, 2]),
     };
     let day = (i64::from(last.day) + days).clamp(0, 65_535);
-    Read { day: day as u16, value: value as u32, letter: letter(random), indicator }
+    let letter = if meter.is_pseudo { pseudo_letter(random, b'F') } else { letter(random) };
+    Read { day: day as u16, value: value as u32, letter, indicator }
 }
 
 fn days_to_new_year(day: u16) -> i64 {
@@ -154,5 +159,14 @@ fn letter(random: &mut Random) -> u8 {
         3 => b'F',
         4..=6 => b'Y',
         _ => random.pick(b"CCCCURTSXE"),
+    }
+}
+
+/// For a pseudo meter: mostly the type that is due, and often one that it does not take.
+fn pseudo_letter(random: &mut Random, due: u8) -> u8 {
+    match random.index(12) {
+        0..=2 => random.pick(b"IOFCURTSXYE"),
+        3 if random.once_in(5) => random.byte(),
+        _ => due,
     }
 }

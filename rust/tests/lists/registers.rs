@@ -13,7 +13,7 @@ pub fn any_register(random: &mut Random) -> Vec<u8> {
 
 fn any_area(random: &mut Random) -> Vec<u8> {
     let mut area = vec![0; AREA_BYTES];
-    match random.index(24) {
+    match random.index(26) {
         0 => {}
         1 => area.fill_with(|| random.byte()),
         2 => {
@@ -26,9 +26,14 @@ fn any_area(random: &mut Random) -> Vec<u8> {
             sound_area(random, &mut area);
             damage_bytes(random, &mut area);
         }
-        _ => {
+        20..=23 => {
             sound_area(random, &mut area);
             damage_an_entry(random, &mut area);
+        }
+        // A meter of the other kind, or of none.
+        _ => {
+            sound_area(random, &mut area);
+            area[0] = random.pick(&[0, 1, 2, 6, 7, 7, 8, 255]);
         }
     }
     area
@@ -36,17 +41,17 @@ fn any_area(random: &mut Random) -> Vec<u8> {
 
 /// A few entries whose fields are in range and whose order means nothing.
 fn random_entries(random: &mut Random, area: &mut [u8]) {
-    let turn = write_meter(random, area);
+    let head = write_meter(random, area);
     let count = random.index(5);
     if random.once_in(3) {
-        let [first, folded, flagged] = [turn, 4, 3].map(|most| random.between(0, most));
+        let [first, folded, flagged] = [head.turn, 4, 3].map(|most| random.between(0, most));
         put_carry(&mut area[METER_BYTES..], first as u32, folded as u16, flagged as u16);
     }
     let start = head_bytes(area);
     for entry in area[start..].chunks_exact_mut(ENTRY_BYTES).take(count) {
         let kind = random.pick(&[2, 2, 3, 4]);
         let flag = random.pick(&[0, 0, 1]);
-        write_read(entry, kind, any_read(random, turn), flag);
+        write_read(entry, kind, any_read(random, head), flag);
     }
 }
 
@@ -64,7 +69,7 @@ fn damage_bytes(random: &mut Random, area: &mut [u8]) {
             0 => random.byte(),
             1 => area[at] ^ (1 << random.index(8)),
             2 => area[at].wrapping_add(1),
-            _ => random.pick(&[0, 1, 2, 3, 4, 5, 255]),
+            _ => random.pick(&[0, 1, 2, 3, 4, 5, 7, 255]),
         };
     }
 }
@@ -83,7 +88,7 @@ fn damage_an_entry(random: &mut Random, area: &mut [u8]) {
     let other: [u8; 10] = area[start + ENTRY_BYTES * random.index(count)..][..10].try_into().expect("ten bytes");
     let entry = &mut area[start + ENTRY_BYTES * random.index(count)..][..ENTRY_BYTES];
     match random.index(12) {
-        0 => entry[0] = random.pick(&[1, 2, 3, 4, 5]),
+        0 => entry[0] = random.pick(&[1, 2, 3, 4, 5, 7]),
         1 => entry[1..3].copy_from_slice(&other[1..3]),
         2 => entry[1..7].copy_from_slice(&other[1..7]),
         3 => entry[1..3].copy_from_slice(&random.pick(&[0_u16, 1, 65_535]).to_le_bytes()),
@@ -109,7 +114,7 @@ fn damage_a_carry(random: &mut Random, area: &mut [u8]) {
         1 => carry[5..7].copy_from_slice(&(oldest.wrapping_add(random.between(-1, 1) as u16)).to_le_bytes()),
         2 => carry[5..9].copy_from_slice(&random.pick(&[[0, 0, 0, 0], [1, 0, 1, 0], [0, 1, 1, 0], [1, 0, 0, 1]])),
         3 => carry[7..9].copy_from_slice(&(folded.wrapping_add(random.between(-1, 1) as u16)).to_le_bytes()),
-        4 => carry[0] = random.pick(&[0, 1, 2, 3, 4, 6]),
+        4 => carry[0] = random.pick(&[0, 1, 2, 3, 4, 6, 7]),
         5 => area.copy_within(METER_BYTES..AREA_BYTES - CARRY_BYTES, METER_BYTES + CARRY_BYTES),
         _ => area.copy_within(METER_BYTES + 1.., METER_BYTES),
     }

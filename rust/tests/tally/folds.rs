@@ -1,7 +1,8 @@
 //! The states that folds lead to.
 
-use super::Area;
-use necktureen::{entries, letter, Answer, Call, Entry, Number, Read, Reply, Report};
+use super::journal::Journal;
+use super::{true_of, Area};
+use necktureen::{letter, Answer, Call, Number, Reply, Report};
 use std::collections::BTreeSet;
 
 pub const STATES: &[&str] = &[
@@ -42,35 +43,6 @@ pub const STATES: &[&str] = &[
     "sent again after a fold dropped it, 12",
 ];
 
-/// What an area holds.
-#[derive(Default)]
-struct Journal {
-    is_carried: bool,
-    standing: Vec<Read>,
-    withdrawn: Vec<Read>,
-    held: Option<Read>,
-}
-
-impl Journal {
-    fn of(area: &Area) -> Journal {
-        let mut journal = Journal::default();
-        for entry in entries(area) {
-            match entry {
-                Entry::Carry { .. } => journal.is_carried = true,
-                Entry::Standing(read) => journal.standing.push(read),
-                Entry::Withdrawn(read) => journal.withdrawn.push(read),
-                Entry::Held(read) => journal.held = Some(read),
-                _ => {}
-            }
-        }
-        journal
-    }
-
-    fn entries(&self) -> usize {
-        self.standing.len() + self.withdrawn.len() + usize::from(self.held.is_some())
-    }
-}
-
 /// The states that a call was in, by the area before it and after.
 pub fn states(call: &Call, reply: Reply, before: &Area, after: &Area) -> Vec<&'static str> {
     let is_carried = before[6] == 5;
@@ -86,11 +58,6 @@ pub fn states(call: &Call, reply: Reply, before: &Area, after: &Area) -> Vec<&'s
         (_, Reply::Report(report)) => of_report(report),
         _ => Vec::new(),
     }
-}
-
-/// The names of the rows that are true.
-fn true_of(rows: &[(bool, &'static str)]) -> Vec<&'static str> {
-    rows.iter().filter(|row| row.0).map(|row| row.1).collect()
 }
 
 fn of_fold(number: Number, journal: &Journal) -> Vec<&'static str> {

@@ -1,6 +1,8 @@
 //! What a comparison reached: every number, and the states that take a long way to reach.
 
 mod folds;
+mod journal;
+mod profiles;
 
 use super::peer::calendar;
 use folds::Dropped;
@@ -54,7 +56,7 @@ const DEEP: [&str; 25] = [
 
 impl Tally {
     pub fn new() -> Tally {
-        let deep = DEEP.iter().chain(folds::STATES).map(|&name| (name, 0)).collect();
+        let deep = DEEP.iter().chain(folds::STATES).chain(profiles::STATES).map(|&name| (name, 0)).collect();
         Tally { numbers: [0; NUMBERS], deep, query: [None; PLACES], dropped: Dropped::default() }
     }
 
@@ -80,6 +82,9 @@ impl Tally {
             return;
         };
         for name in folds::states(call, reply, &before, &after).into_iter().chain(self.dropped.state(call, reply)) {
+            self.see(name);
+        }
+        for name in profiles::states(call, reply, &before, &after) {
             self.see(name);
         }
         self.dropped.enter(call, reply, &before, &after);
@@ -197,4 +202,9 @@ fn capacity(area: &Area) -> i64 {
 fn last_before(area: &Area, day: u16) -> Option<Read> {
     let standing = entries(area).filter(|entry| matches!(entry, Entry::Standing(_))).filter_map(|entry| entry.read());
     standing.filter(|read| read.day < day).last()
+}
+
+/// The names of the rows that are true.
+fn true_of(rows: &[(bool, &'static str)]) -> Vec<&'static str> {
+    rows.iter().filter(|row| row.0).map(|row| row.1).collect()
 }

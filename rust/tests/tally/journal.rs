@@ -1,0 +1,33 @@
+//! An area as the tally sees it.
+
+use super::Area;
+use necktureen::{entries, Entry, Read};
+
+/// What an area holds.
+#[derive(Default)]
+pub struct Journal {
+    pub is_carried: bool,
+    pub standing: Vec<Read>,
+    pub withdrawn: Vec<Read>,
+    pub held: Option<Read>,
+}
+
+impl Journal {
+    pub fn of(area: &Area) -> Journal {
+        let mut journal = Journal::default();
+        for entry in entries(area) {
+            match entry {
+                Entry::Carry { .. } => journal.is_carried = true,
+                Entry::Standing(read) => journal.standing.push(read),
+                Entry::Withdrawn(read) => journal.withdrawn.push(read),
+                Entry::Held(read) => journal.held = Some(read),
+                _ => {}
+            }
+        }
+        journal
+    }
+
+    pub fn entries(&self) -> usize {
+        self.standing.len() + self.withdrawn.len() + usize::from(self.held.is_some())
+    }
+}
