@@ -1,5 +1,5 @@
-//! Journals with a carry: a damaged area for each clause, beside a sound one that is nearly the same. Then large counts, and
-//! the first read against withdrawn ones.
+//! Journals with a carry, of a meter and of a pseudo meter: a damaged area for each clause, beside a sound one that is
+//! nearly the same. Then large counts, and the first read against withdrawn ones.
 
 mod common;
 mod peer;
@@ -16,23 +16,24 @@ fn second() -> [u8; 10] {
 }
 
 /// 49 entries, the last of them given.
-fn forty_nine(last: [u8; 10]) -> Vec<[u8; 10]> {
-    (0..48).map(|k| stands(100 + k, 20)).chain([last]).collect()
+fn forty_nine(of: Profile, last: [u8; 10]) -> Vec<[u8; 10]> {
+    let more = (101..148).map(|day| of.later(of.many, day, 20));
+    [of.oldest(100, 20)].into_iter().chain(more).chain([last]).collect()
 }
 
 /// An area whose carry and entries are these bytes.
-fn after_meter(parts: &[&[u8]]) -> Vec<u8> {
-    area_of(&[&meter(4, 5000)[..], &parts.concat()].concat(), &[])
+fn after_meter(of: Profile, parts: &[&[u8]]) -> Vec<u8> {
+    area_of(&[&of.meter(4, 5000)[..], &parts.concat()].concat(), &[])
 }
 
 /// A clause, an area that breaks it, and one that does not.
 type Pair = (&'static str, Vec<u8>, Vec<u8>);
 
 /// What a carry says.
-fn of_the_carry() -> Vec<Pair> {
-    let kept = [oldest(), second()];
-    let with = |first, folded, flagged| carried(carry(first, folded, flagged), &kept);
-    let late = |folded| carried(carry(5, folded, 0), &[stands(65_535, 10)]);
+fn of_the_carry(of: Profile) -> Vec<Pair> {
+    let kept = [of.oldest(100, 10), of.later(STANDING, 200, 20)];
+    let with = |first, folded, flagged| of.carried(carry(first, folded, flagged), &kept);
+    let late = |folded| of.carried(carry(5, folded, 0), &[of.oldest(65_535, 10)]);
     vec![
         ("first value of 10^n", with(10_000, 9, 0), with(9_999, 9, 0)),
         ("first value of four bytes", with(u32::MAX, 9, 0), with(0, 9, 0)),
@@ -48,53 +49,54 @@ fn of_the_carry() -> Vec<Pair> {
 }
 
 /// The read that a carry asks for.
-fn of_the_oldest_kept() -> Vec<Pair> {
-    let carry = carry(5, 50, 7);
+fn of_the_oldest_kept(of: Profile) -> Vec<Pair> {
+    let after = |entries: &[[u8; 10]]| of.carried(carry(5, 50, 7), entries);
+    let gone = |day, value| of.later(WITHDRAWN, day, value);
+    let (oldest, held) = (of.oldest(100, 10), of.later(HELD, 300, 30));
     vec![
-        ("a carry alone", carried(carry, &[]), carried(carry, &[oldest()])),
-        ("only a withdrawn read", carried(carry, &[gone(100, 1)]), carried(carry, &[gone(100, 1), oldest()])),
-        (
-            "only a held read",
-            carried(carry, &[entry(HELD, 300, 30, b'C', 0, 0)]),
-            carried(carry, &[oldest(), entry(HELD, 300, 30, b'C', 0, 0)]),
-        ),
+        ("a carry alone", after(&[]), after(&[oldest])),
+        ("only a withdrawn read", after(&[gone(100, 1)]), after(&[gone(100, 1), oldest])),
+        ("only a held read", after(&[held]), after(&[oldest, held])),
         // The oldest kept read is the first that stands, whatever was withdrawn before it.
         (
             "folded is not below the first standing day, and is below a withdrawn one",
-            carried(carry, &[gone(500, 1), stands(50, 10)]),
-            carried(carry, &[gone(500, 1), stands(51, 10)]),
+            after(&[gone(500, 1), of.oldest(50, 10)]),
+            after(&[gone(500, 1), of.oldest(51, 10)]),
         ),
         (
             "folded is below a held day alone",
-            carried(carry, &[stands(50, 10), entry(HELD, 60, 20, b'C', 0, 0)]),
-            carried(carry, &[gone(2, 1), stands(51, 10), entry(HELD, 60, 20, b'C', 0, 0)]),
+            after(&[of.oldest(50, 10), of.later(HELD, 60, 20)]),
+            after(&[gone(2, 1), of.oldest(51, 10), of.later(HELD, 60, 20)]),
         ),
     ]
 }
 
 /// Where a carry is, how long it is, and how many entries follow it.
-fn of_its_place() -> Vec<Pair> {
+fn of_its_place(of: Profile) -> Vec<Pair> {
     let carry = carry(5, 9, 0);
-    let first = entry(STANDING, 100, 10, b'I', 0, 0);
-    let whole = after_meter(&[&carry, &first, &second()]);
-    let mut fifty = carried(carry, &forty_nine(second()));
-    fifty[505..].copy_from_slice(&stands(300, 30)[..7]);
-    let mut last_byte = carried(carry, &forty_nine(second()));
+    let (first, second) = (entry(STANDING, 100, 10, b'I', 0, 0), of.later(STANDING, 200, 20));
+    let after_meter = |parts: &[&[u8]]| after_meter(of, parts);
+    let whole = after_meter(&[&carry, &first, &second]);
+    let full = of.carried(carry, &forty_nine(of, second));
+    let full_with_held = of.carried(carry, &forty_nine(of, of.later(HELD, 300, 30)));
+    let mut fifty = full.clone();
+    fifty[505..].copy_from_slice(&of.later(of.many, 300, 30)[..7]);
+    let mut last_byte = full.clone();
     last_byte[511] = 1;
     let mut behind = whole.clone();
     behind[36] = 1;
     vec![
-        ("a carry before the meter", area_of(&[&carry[..], &meter(4, 5000)].concat(), &[first]), whole.clone()),
+        ("a carry before the meter", area_of(&[&carry[..], &of.meter(4, 5000)].concat(), &[first]), whole.clone()),
         ("a carry after an entry", after_meter(&[&first, &carry]), after_meter(&[&first])),
-        ("a carry between entries", after_meter(&[&first, &carry, &second()]), area(&[first, second()])),
-        ("a carry as the last of ten bytes", area(&[first, entry(5, 5, 9, 0, 0, 0)]), area(&[first])),
+        ("a carry between entries", after_meter(&[&first, &carry, &second]), of.area(&[first, second])),
+        ("a carry as the last of ten bytes", of.area(&[first, entry(5, 5, 9, 0, 0, 0)]), of.area(&[first])),
         ("two carries", after_meter(&[&carry, &carry, &first]), after_meter(&[&carry, &first])),
         ("a carry of zeros", after_meter(&[&[5; 1], &[0; 8], &first]), whole.clone()),
-        ("a carry a byte short", after_meter(&[&carry[..8], &first, &second()]), whole.clone()),
-        ("a carry a byte long", after_meter(&[&carry, &[0], &first, &second()]), whole.clone()),
+        ("a carry a byte short", after_meter(&[&carry[..8], &first, &second]), whole.clone()),
+        ("a carry a byte long", after_meter(&[&carry, &[0], &first, &second]), whole.clone()),
         ("a byte after the zero that ends the journal", behind, whole),
-        ("50 entries after a carry", fifty, carried(carry, &forty_nine(second()))),
-        ("the last byte", last_byte, carried(carry, &forty_nine(entry(HELD, 300, 30, b'C', 0, 0)))),
+        ("50 entries after a carry", fifty, full),
+        ("the last byte", last_byte, full_with_held),
     ]
 }
 
@@ -123,40 +125,73 @@ fn of_the_reads() -> Vec<Pair> {
     ]
 }
 
-/// The fields of the reads after a carry.
-fn of_the_fields() -> Vec<Pair> {
-    let after = |entry| carried(carry(5, 9, 2), &[entry]);
-    let with = |letter, indicator, flag| after(entry(STANDING, 100, 10, letter, indicator, flag));
-    let withdrawn_on = |day| carried(carry(5, 9, 2), &[oldest(), gone(day, 1)]);
-    let kind_6 = carried(carry(5, 9, 2), &[oldest(), entry(6, 200, 20, b'C', 0, 0)]);
+/// The same on a pseudo meter, where an I and an F are all that may stand: the first of them after a carry may be the F.
+fn of_a_pseudo_meters_reads() -> Vec<Pair> {
+    let after = |entries: &[[u8; 10]]| PSEUDO.carried(carry(5, 9, 2), entries);
+    let initial = |day| entry(STANDING, day, 10, b'I', 0, 0);
+    let last = |kind, day| entry(kind, day, 10, b'F', 0, 0);
+    let (both, alone) = ([initial(100), last(STANDING, 200)], [last(STANDING, 200)]);
+    let gone = |day| last(WITHDRAWN, day);
     vec![
-        ("an opening with an indicator", with(b'O', 1, 0), with(b'C', 1, 0)),
-        ("flag 2", with(b'C', 0, 2), with(b'C', 0, 1)),
-        ("indicator 3", with(b'C', 3, 0), with(b'C', 2, 0)),
-        ("unknown type", with(b'A', 0, 0), with(b'E', 0, 0)),
+        ("a later I", after(&[initial(100), initial(200)]), after(&both)),
+        ("a later I after an F", after(&[alone[0], initial(300)]), after(&alone)),
+        ("two F", after(&[alone[0], last(STANDING, 300)]), after(&[alone[0], gone(300)])),
+        (
+            "two later F",
+            after(&[&both[..], &[last(STANDING, 300)]].concat()),
+            after(&[&both[..], &[gone(300)]].concat()),
+        ),
+        ("a held F with an F standing", after(&[alone[0], last(HELD, 300)]), after(&[initial(100), last(HELD, 300)])),
+        ("held before a read", after(&[last(HELD, 300), initial(100)]), after(&[initial(100), last(HELD, 101)])),
+        (
+            "held on the last standing day",
+            after(&[initial(100), last(HELD, 100)]),
+            after(&[initial(99), last(HELD, 100)]),
+        ),
+        ("equal standing days", after(&[initial(200), alone[0]]), after(&[initial(199), alone[0]])),
+        ("standing as withdrawn before it", after(&[gone(200), alone[0]]), after(&[gone(201), alone[0]])),
+        ("standing as withdrawn after it", after(&[initial(100), gone(100)]), after(&[initial(100), gone(101)])),
+    ]
+}
+
+/// The fields of the reads after a carry.
+fn of_the_fields(of: Profile) -> Vec<Pair> {
+    let after = |entries: &[[u8; 10]]| of.carried(carry(5, 9, 2), entries);
+    let with = |letter, indicator, flag| after(&[entry(STANDING, 100, 10, letter, indicator, flag)]);
+    let oldest = of.oldest(100, 10);
+    let withdrawn_on = |day| after(&[oldest, of.later(WITHDRAWN, day, 1)]);
+    let of_kind = |kind| after(&[oldest, of.later(kind, 200, 20)]);
+    vec![
+        ("an opening with an indicator", with(of.opens, 1, 0), with(of.later, 1, 0)),
+        ("flag 2", with(of.later, 0, 2), with(of.later, 0, 1)),
+        ("indicator 3", with(of.later, 3, 0), with(of.later, 2, 0)),
+        ("unknown type", with(b'A', 0, 0), with(of.oldest, 0, 0)),
         ("withdrawn on day 0", withdrawn_on(0), withdrawn_on(1)),
-        ("value of 10^n", after(stands(100, 10_000)), after(stands(100, 9_999))),
-        ("kind 6", kind_6, carried(carry(5, 9, 2), &[oldest(), second()])),
+        ("value of 10^n", after(&[of.oldest(100, 10_000)]), after(&[of.oldest(100, 9_999)])),
+        ("kind 1 after a carry", of_kind(1), of_kind(STANDING)),
+        ("kind 6", of_kind(6), of_kind(WITHDRAWN)),
+        ("kind 7 after a carry", of_kind(7), of_kind(HELD)),
     ]
 }
 
 /// The meter that a carry follows.
-fn of_the_plate() -> Vec<Pair> {
-    let with = |plate: [u8; 6]| area_of(&[&plate[..], &carry(5, 9, 0)].concat(), &[oldest()]);
-    let largest = |first| area_of(&[&meter(9, 1)[..], &carry(first, 9, 9)].concat(), &[oldest()]);
+fn of_the_plate(of: Profile) -> Vec<Pair> {
+    let with = |plate: [u8; 6]| area_of(&[&plate[..], &carry(5, 9, 0)].concat(), &[of.oldest(100, 10)]);
+    let largest = |first| area_of(&[&of.meter(9, 1)[..], &carry(first, 9, 9)].concat(), &[of.oldest(100, 10)]);
     vec![
-        ("three dials", with(meter(3, 1)), with(meter(4, 1))),
-        ("ten dials", with(meter(10, 1)), with(meter(9, 1))),
-        ("capacity 0", with(meter(4, 0)), with(meter(4, u32::MAX))),
+        ("three dials", with(of.meter(3, 1)), with(of.meter(4, 1))),
+        ("ten dials", with(of.meter(10, 1)), with(of.meter(9, 1))),
+        ("capacity 0", with(of.meter(4, 0)), with(of.meter(4, u32::MAX))),
         ("first value of 10^9", largest(1_000_000_000), largest(999_999_999)),
     ]
 }
 
 #[test]
 fn damage_of_every_clause_has_a_sound_neighbour() {
-    let clauses =
-        [of_the_carry(), of_the_oldest_kept(), of_its_place(), of_the_reads(), of_the_fields(), of_the_plate()];
-    for (clause, damaged, sound) in clauses.concat() {
+    let of_either = [of_the_carry, of_the_oldest_kept, of_its_place, of_the_fields, of_the_plate];
+    let clauses = PROFILES.into_iter().flat_map(|of| of_either.map(|clauses| clauses(of)));
+    let reads = [of_the_reads(), of_a_pseudo_meters_reads()];
+    for (clause, damaged, sound) in clauses.chain(reads).flatten() {
         is_damaged(&damaged, clause);
         assert_eq!(peer::report(&with_area(9, &damaged), 9).number, Number::Damaged, "{clause}, the peer");
         is_sound(&sound, &format!("beside: {clause}"));
@@ -196,7 +231,7 @@ fn the_first_read_after_a_carry_may_have_any_type_and_flag() {
 /// A journal is handed back from its start, so the carry is in it.
 #[test]
 fn the_journal_has_the_carry_in_it() {
-    let area = carried(carry(9999, 99, 98), &forty_nine(second()));
+    let area = carried(carry(9999, 99, 98), &forty_nine(ORDINARY, second()));
     assert_eq!(journal(&with_area(63, &area), 63), &area[..505]);
     let area = carried(carry(0, 1, 0), &[oldest()]);
     assert_eq!(journal(&with_area(0, &area), 0), &area[..25]);

@@ -38,8 +38,7 @@ pub fn daily(count: u16) -> Vec<[u8; 10]> {
 
 /// The meter's entry: kind 1, dials and capacity.
 pub fn meter(dials: u8, capacity: u32) -> [u8; 6] {
-    let c = capacity.to_le_bytes();
-    [1, dials, c[0], c[1], c[2], c[3]]
+    ORDINARY.meter(dials, capacity)
 }
 
 /// A carry: the first value, how many reads were folded, and how many of them are flagged.
@@ -50,12 +49,12 @@ pub fn carry(first: u32, folded: u16, flagged: u16) -> [u8; 9] {
 
 /// An area of four dials and a capacity of 5000 with these entries after the meter's.
 pub fn area(entries: &[[u8; 10]]) -> Vec<u8> {
-    area_of(&meter(4, 5000), entries)
+    ORDINARY.area(entries)
 }
 
 /// The same with a carry after the meter's entry.
 pub fn carried(carry: [u8; 9], entries: &[[u8; 10]]) -> Vec<u8> {
-    area_of(&[&meter(4, 5000)[..], &carry].concat(), entries)
+    ORDINARY.carried(carry, entries)
 }
 
 /// An area with this head and these entries, then zeros.
@@ -67,6 +66,55 @@ pub fn area_of(head: &[u8], entries: &[[u8; 10]]) -> Vec<u8> {
     assert!(bytes.len() <= AREA_BYTES, "no area holds it");
     bytes.resize(AREA_BYTES, 0);
     bytes
+}
+
+// ---- Journals of either kind of meter ----
+
+/// What a journal of this kind of meter is made of.
+#[derive(Clone, Copy, Debug)]
+pub struct Profile {
+    /// The kind byte of its head.
+    pub kind: u8,
+    /// A type that a first read may have.
+    pub opens: u8,
+    /// The type of the oldest kept read after a carry.
+    pub oldest: u8,
+    /// A type that a later read may have, and a held one.
+    pub later: u8,
+    /// The kind of entry that there may be many of: on a pseudo meter no more than two reads stand.
+    pub many: u8,
+}
+
+pub const ORDINARY: Profile = Profile { kind: 1, opens: b'O', oldest: b'C', later: b'C', many: STANDING };
+pub const PSEUDO: Profile = Profile { kind: 7, opens: b'I', oldest: b'I', later: b'F', many: WITHDRAWN };
+pub const PROFILES: [Profile; 2] = [ORDINARY, PSEUDO];
+
+impl Profile {
+    /// Its entry: the kind, dials and capacity.
+    pub fn meter(self, dials: u8, capacity: u32) -> [u8; 6] {
+        let c = capacity.to_le_bytes();
+        [self.kind, dials, c[0], c[1], c[2], c[3]]
+    }
+
+    /// An area of four dials and a capacity of 5000 with these entries after the meter's.
+    pub fn area(self, entries: &[[u8; 10]]) -> Vec<u8> {
+        area_of(&self.meter(4, 5000), entries)
+    }
+
+    /// The same with a carry after the meter's entry.
+    pub fn carried(self, carry: [u8; 9], entries: &[[u8; 10]]) -> Vec<u8> {
+        area_of(&[&self.meter(4, 5000)[..], &carry].concat(), entries)
+    }
+
+    /// A read of a later type.
+    pub fn later(self, kind: u8, day: u16, value: u32) -> [u8; 10] {
+        entry(kind, day, value, self.later, 0, 0)
+    }
+
+    /// The oldest kept read after a carry.
+    pub fn oldest(self, day: u16, value: u32) -> [u8; 10] {
+        entry(STANDING, day, value, self.oldest, 0, 0)
+    }
 }
 
 /// A register of zeros but for one area.
