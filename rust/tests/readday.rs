@@ -1,7 +1,7 @@
 //! The compiled program `readday` on sheets: case S, the edges of a sheet, and every fault.
 
 use necktureen::indicator::{NOT_SET, TRUE};
-use necktureen::letter::{CYCLIC, INITIAL};
+use necktureen::letter::{CYCLIC, FINAL, INITIAL, OPENING};
 use necktureen::{Call, SheetWriter, Submission, SHEET_BYTES};
 use std::io::{ErrorKind, Write};
 use std::path::Path;
@@ -27,6 +27,7 @@ fn submit(submitted: u16, day: u16, letter: u8, value: u32, indicator: u8, rerea
 const ENROL: Call = Call::Enrol { place: 0, dials: 4, capacity: 5000 };
 const REPORT: Call = Call::Report { place: 0 };
 const FOLD: Call = Call::Fold { place: 0 };
+const ENROL_PSEUDO: Call = Call::EnrolPseudo { place: 0, dials: 4, capacity: 5000 };
 
 fn case_s() -> Vec<u8> {
     sheet(&[
@@ -90,6 +91,24 @@ fn a_fold_is_a_line_as_any_other() {
     assert_eq!(play(&[case_s(), more].concat()), format!("{CASE_S}{lines}"));
 }
 
+/// A site without a dial: an initial read and a final one, and no other. It is enrolled once, by either enrolment.
+#[test]
+fn a_pseudo_meter_is_enrolled_by_kind_6() {
+    let opening = submit(1600, 1000, OPENING, 9200, NOT_SET, 0);
+    let initial = submit(1600, 1000, INITIAL, 9200, NOT_SET, 0);
+    let cyclic = submit(1600, 1180, CYCLIC, 9400, NOT_SET, 0);
+    let last = submit(1600, 1180, FINAL, 9400, NOT_SET, 0);
+    let withdrawal = Call::Withdraw { place: 0, day: 1180, value: 9400 };
+    let calls = [opening, initial, cyclic, last, FOLD, REPORT, withdrawal, last, ENROL, ENROL_PSEUDO, REPORT];
+    let lines = "29 0 0\n0 0 0\n29 0 0\n0 0 200\n27 0 0\n0 2 0 200\n0 0 -200\n8 0 0\n24 0 0\n24 0 0\n0 1 0 0\n";
+    let bad = [
+        Call::EnrolPseudo { place: 64, dials: 3, capacity: 0 },
+        Call::EnrolPseudo { place: 63, dials: 3, capacity: 1 },
+    ];
+    let sheet = [&[6, 0, 4, 0x88, 0x13, 0, 0][..], &sheet(&calls), &sheet(&bad)].concat();
+    assert_eq!(play(&sheet), format!("0 0 0\n{lines}3 0 0\n25 0 0\n"));
+}
+
 /// A sheet that comes in pieces is gathered whole.
 #[test]
 fn a_sheet_may_come_byte_by_byte() {
@@ -112,7 +131,7 @@ fn an_empty_sheet_prints_nothing() {
 #[test]
 fn a_cut_body_is_a_fault() {
     let opening = submit(1600, 1000, INITIAL, 9200, NOT_SET, 0);
-    for call in [ENROL, opening, Call::Withdraw { place: 0, day: 1540, value: 100 }, REPORT, FOLD] {
+    for call in [ENROL, opening, Call::Withdraw { place: 0, day: 1540, value: 100 }, REPORT, FOLD, ENROL_PSEUDO] {
         let entry = sheet(&[call]);
         for length in 1..entry.len() {
             let cut = &entry[..length];
@@ -125,7 +144,7 @@ fn a_cut_body_is_a_fault() {
 /// Nothing after an unknown kind is played, a whole entry neither.
 #[test]
 fn an_unknown_kind_is_a_fault() {
-    for kind in [0, 6, 7, 49, 128, 255] {
+    for kind in [0, 7, 8, 49, 128, 255] {
         assert_eq!(play(&[kind]), FAULT, "{kind}");
         assert_eq!(play(&[&case_s(), &[kind][..], &sheet(&[REPORT])].concat()), format!("{CASE_S}{FAULT}"), "{kind}");
     }

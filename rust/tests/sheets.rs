@@ -54,8 +54,8 @@ fn any_sheet(random: &mut Random) -> Vec<u8> {
             let at = random.index(sheet.len());
             sheet[at] = random.byte();
         }
-        2 => sheet.push(random.pick(&[0, 5, 9, 255])),
-        3 => sheet = (0..random.index(60)).map(|_| random.byte() % 7).collect(),
+        2 => sheet.push(random.pick(&[0, 5, 6, 7, 9, 255])),
+        3 => sheet = (0..random.index(60)).map(|_| random.byte() % 8).collect(),
         4 => sheet.extend([0; 40]),
         _ => {}
     }
@@ -69,9 +69,14 @@ fn edge_sheets(random: &mut Random) -> Vec<Vec<u8>> {
         vec![0],
         vec![1],
         vec![5],
+        vec![6],
+        vec![7],
         vec![9],
         vec![4, 0],
         vec![5, 0],
+        vec![6, 0, 4, 1, 0, 0],
+        vec![6, 0, 4, 1, 0, 0, 0],
+        vec![7, 0, 4, 1, 0, 0, 0],
         vec![0; SHEET_BYTES],
         vec![0; SHEET_BYTES + 1],
     ];
@@ -112,6 +117,7 @@ fn a_sheet_read_is_written_as_it_was() {
 fn calls_with_lines() -> Vec<(Call, String)> {
     let read = |day, letter, value| Submission { submitted: 900, day, value, letter, indicator: 0, reread: 0 };
     let sent = |day, letter, value| Call::Submit { place: 9, read: read(day, letter, value) };
+    let sent_to_pseudo = |day, letter, value| Call::Submit { place: 8, read: read(day, letter, value) };
     let calls = [
         Call::Fold { place: 9 },
         Call::Enrol { place: 9, dials: 5, capacity: 9000 },
@@ -124,6 +130,13 @@ fn calls_with_lines() -> Vec<(Call, String)> {
         Call::Report { place: 9 },
         Call::Withdraw { place: 9, day: 400, value: 1300 },
         Call::Fold { place: 255 },
+        Call::EnrolPseudo { place: 9, dials: 5, capacity: 9000 },
+        Call::EnrolPseudo { place: 8, dials: 4, capacity: 9000 },
+        sent_to_pseudo(100, b'O', 1000),
+        sent_to_pseudo(100, b'I', 1000),
+        sent_to_pseudo(200, b'F', 1100),
+        Call::Report { place: 8 },
+        Call::EnrolPseudo { place: 255, dials: 4, capacity: 9000 },
     ];
     let mut register = vec![0; REGISTER_BYTES];
     let line = |call: &Call| match call.make(&mut register) {
