@@ -94,13 +94,13 @@ fn a_held_final_read_is_confirmed() {
 }
 
 /// Where an F is taken one read stands at most, so there is no advance to compare with: every value is accepted, over the
-/// capacity (21) or an unclear step back (18). Days 110 and 465 are in a leap year and in a common one.
+/// capacity (21) or an unclear step back (18). Days 200 and 465 are in a leap year and in a common one.
 #[test]
 fn a_final_read_is_never_queried() {
     let after_initial = [PSEUDO.area(&[entry(STANDING, 100, 5000, b'I', 0, 0)])];
     let after_carry = [PSEUDO.carried(carry(1, 99, 0), &[entry(STANDING, 100, 5000, b'I', 0, 0)])];
     for area in [after_initial, after_carry].concat() {
-        for (day, days, of_year) in [(110, 10, 366), (465, 365, 365)] {
+        for (day, days, of_year) in [(200, 100, 366), (465, 365, 365)] {
             for value in 0..10_000 {
                 let advance = i64::from(value) - 5000;
                 let expected = match advance {
