@@ -1,6 +1,6 @@
 //! The cases that are measured, in the order of the tables.
 
-use crate::journals::{carried_register, damage, day, next_read_carried, register, Withdrawn};
+use crate::journals::{carried_register, damage, day, next_read_carried, pseudo_register, register, Head, Withdrawn};
 use crate::journals::{ADVANCE, CAPACITY, DIALS, PLACES};
 use crate::rows::{Made, Row};
 use necktureen::{Number, Submission, REGISTER_BYTES};
@@ -20,6 +20,7 @@ pub fn rows() -> Vec<Row> {
     rows.extend(folds());
     rows.extend([3, 49].map(|entries| carried(Made::Report, entries)));
     rows.extend([3, 48].map(|entries| carried(Made::Submit(next_read_carried(entries)), entries)));
+    rows.extend(of_pseudo_meters());
     rows.extend([0, 50].map(|entries| row(Made::Journal, "handed back", entries, Number::Accepted)));
     rows.extend([(Made::DateOf, "the date of a day"), (Made::DayOf, "the day of a date")].map(calendar));
     rows
@@ -28,7 +29,7 @@ pub fn rows() -> Vec<Row> {
 fn row(made: Made, case: &'static str, entries: usize, expected: Number) -> Row {
     let places = (0..PLACES).collect();
     let register = register(entries, Withdrawn::None);
-    Row { call: made.word(), case, entries, is_carried: false, expected, made, places, register }
+    Row { call: made.word(), case, entries, head: Head::Meter, expected, made, places, register }
 }
 
 /// The journals with withdrawn entries.
@@ -133,12 +134,33 @@ fn folds() -> Vec<Row> {
 /// On journals with a carry.
 fn carried(made: Made, entries: usize) -> Row {
     let row = row(made, "accepted, after a carry", entries, Number::Accepted);
-    Row { is_carried: true, register: carried_register(entries), ..row }
+    Row { head: Head::Carried, register: carried_register(entries), ..row }
 }
 
 fn enrol() -> Row {
     let made = Made::Enrol { dials: DIALS, capacity: CAPACITY };
     Row { register: vec![0; REGISTER_BYTES], ..row(made, "accepted", 0, Number::Accepted) }
+}
+
+/// On journals of pseudo meters: an initial read, a final one and no other, but for misreads of the final one.
+fn of_pseudo_meters() -> Vec<Row> {
+    let made = Made::EnrolPseudo { dials: DIALS, capacity: CAPACITY };
+    let enrolled = Row { register: vec![0; REGISTER_BYTES], ..row(made, "accepted", 0, Number::Accepted) };
+    let read = |entries, letter| Made::Submit(Submission { letter, ..Withdrawn::None.next_read(entries, ADVANCE) });
+    let (case, withdrawn) = ("accepted, a pseudo meter, all entries but the first withdrawn", Withdrawn::AllButFirst);
+    vec![
+        enrolled,
+        pseudo(read(0, b'I'), "accepted, a pseudo meter's initial read", 0, Number::Accepted),
+        pseudo(read(1, b'F'), "accepted, a pseudo meter's final read", 1, Number::Accepted),
+        pseudo(read(1, b'C'), "refused, another type on a pseudo meter (29)", 1, Number::OtherType),
+        pseudo(Made::Report, "accepted, a pseudo meter", 2, Number::Accepted),
+        Row { register: pseudo_register(50, withdrawn), ..pseudo(Made::Report, case, 50, Number::Accepted) },
+    ]
+}
+
+fn pseudo(made: Made, case: &'static str, entries: usize, expected: Number) -> Row {
+    let register = pseudo_register(entries, Withdrawn::None);
+    Row { head: Head::PseudoMeter, register, ..row(made, case, entries, expected) }
 }
 
 /// Without a register.

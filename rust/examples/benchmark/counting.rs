@@ -62,9 +62,9 @@ impl Counted {
     }
 
     /// The least journal on which the same call is answered the same, if it is less than this one. Journals with a carry
-    /// are for themselves.
+    /// are for themselves, and so are those of pseudo meters.
     fn least<'a>(&self, all: &'a [Counted]) -> Option<&'a Counted> {
-        let case = |counted: &Counted| (counted.row.call, counted.row.expected, counted.row.is_carried);
+        let case = |counted: &Counted| (counted.row.call, counted.row.expected, counted.row.head);
         let alike = |other: &&Counted| case(other) == case(self);
         let least = all.iter().filter(alike).min_by_key(|other| other.row.entries)?;
         (least.row.entries < self.row.entries).then_some(least)

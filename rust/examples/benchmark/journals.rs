@@ -1,4 +1,5 @@
 //! The registers that calls are made on: 64 equal journals, with reads of every type but F, of which only one may stand.
+//! Those of pseudo meters have an I and an F.
 
 use necktureen::{Submission, AREA_BYTES};
 
@@ -22,6 +23,15 @@ const FOLDED: usize = 47;
 const METER_BYTES: usize = 6;
 const CARRY_BYTES: usize = 9;
 const ENTRY_BYTES: usize = 10;
+
+/// What a journal begins with.
+#[derive(Clone, Copy, PartialEq)]
+pub enum Head {
+    Meter,
+    /// A meter and a carry.
+    Carried,
+    PseudoMeter,
+}
 
 /// Which entries of a journal are withdrawn.
 #[derive(Clone, Copy)]
@@ -131,6 +141,16 @@ pub fn carried_register(entries: usize) -> Vec<u8> {
         write_entry(entry, 2, day(standing), Withdrawn::None.value(standing), letter(standing));
     }
     area.repeat(usize::from(PLACES))
+}
+
+/// A register of pseudo meters, each with an initial read, and after it a final one that stands or misreads of it.
+pub fn pseudo_register(entries: usize, withdrawn: Withdrawn) -> Vec<u8> {
+    let mut register = register(entries, withdrawn);
+    for area in register.chunks_exact_mut(AREA_BYTES) {
+        area[0] = 7;
+        area[METER_BYTES..].chunks_exact_mut(ENTRY_BYTES).take(entries).skip(1).for_each(|entry| entry[7] = b'F');
+    }
+    register
 }
 
 /// The read that follows so many standing ones after a carry.

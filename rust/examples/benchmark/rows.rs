@@ -1,6 +1,7 @@
 //! A row of the tables: a call, the journals that it is made on, and the answer that it gets. A call of the calendar is
 //! made on none.
 
+use crate::journals::Head;
 use crate::sides::{Side, LIBRARY, PEER};
 use necktureen::{Date, Number, Submission};
 use std::hint::black_box;
@@ -10,6 +11,7 @@ use std::time::{Duration, Instant};
 #[derive(Clone, Copy)]
 pub enum Made {
     Enrol { dials: u8, capacity: u32 },
+    EnrolPseudo { dials: u8, capacity: u32 },
     Submit(Submission),
     Withdraw { day: u16, value: u32 },
     Fold,
@@ -34,6 +36,7 @@ impl Made {
     pub fn word(self) -> &'static str {
         match self {
             Made::Enrol { .. } => "enrol",
+            Made::EnrolPseudo { .. } => "enrol_pseudo",
             Made::Submit(_) => "submit",
             Made::Withdraw { .. } => "withdraw",
             Made::Fold => "fold",
@@ -49,8 +52,8 @@ pub struct Row {
     pub call: &'static str,
     pub case: &'static str,
     pub entries: usize,
-    /// Whether the journals have a carry, which is no entry of theirs.
-    pub is_carried: bool,
+    /// What the journals begin with, which is no entry of theirs.
+    pub head: Head,
     /// What the call is answered. The journal call, which answers no number, has that of a report, and a call of the
     /// calendar is accepted if it is answered as the peer's.
     pub expected: Number,
@@ -69,7 +72,8 @@ impl Row {
     /// A call that stores, marks or folds reads finds another register the second time.
     fn changes(&self) -> bool {
         let stored = [Number::Accepted, Number::Low, Number::High].contains(&self.expected);
-        stored && matches!(self.made, Made::Enrol { .. } | Made::Submit(_) | Made::Withdraw { .. } | Made::Fold)
+        let only_reads = matches!(self.made, Made::Report | Made::Journal | Made::DateOf | Made::DayOf);
+        stored && !only_reads
     }
 
     /// Holds both sides to the answer that the row names.
@@ -84,6 +88,7 @@ impl Row {
     fn answer(&self, side: Side, register: &mut [u8], place: u16) -> Number {
         match self.made {
             Made::Enrol { dials, capacity } => (side.enrol)(register, place, dials, capacity).number,
+            Made::EnrolPseudo { dials, capacity } => (side.enrol_pseudo)(register, place, dials, capacity).number,
             Made::Submit(read) => (side.submit)(register, place, read).number,
             Made::Withdraw { day, value } => (side.withdraw)(register, place, day, value).number,
             Made::Fold => (side.fold)(register, place).number,
@@ -101,6 +106,9 @@ impl Row {
         match self.made {
             Made::Enrol { dials, capacity } => self.stretches(passes, |register, place| {
                 let _ = black_box((side.enrol)(register, place, black_box(dials), black_box(capacity)));
+            }),
+            Made::EnrolPseudo { dials, capacity } => self.stretches(passes, |register, place| {
+                let _ = black_box((side.enrol_pseudo)(register, place, black_box(dials), black_box(capacity)));
             }),
             Made::Submit(read) => self.stretches(passes, |register, place| {
                 let _ = black_box((side.submit)(register, place, black_box(read)));

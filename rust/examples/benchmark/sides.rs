@@ -7,6 +7,7 @@ use necktureen::{Answer, Date, Report, Submission};
 #[derive(Clone, Copy)]
 pub struct Side {
     pub enrol: fn(&mut [u8], u16, u8, u32) -> Answer,
+    pub enrol_pseudo: fn(&mut [u8], u16, u8, u32) -> Answer,
     pub submit: fn(&mut [u8], u16, Submission) -> Answer,
     pub withdraw: fn(&mut [u8], u16, u16, u32) -> Answer,
     pub fold: fn(&mut [u8], u16) -> Answer,
@@ -18,6 +19,7 @@ pub struct Side {
 
 pub const LIBRARY: Side = Side {
     enrol: necktureen::enrol,
+    enrol_pseudo: necktureen::enrol_pseudo,
     submit: necktureen::submit,
     withdraw: necktureen::withdraw,
     fold: necktureen::fold,
@@ -29,6 +31,7 @@ pub const LIBRARY: Side = Side {
 
 pub const PEER: Side = Side {
     enrol: peer::enrol,
+    enrol_pseudo: peer::enrol_pseudo,
     submit: peer::submit,
     withdraw: peer::withdraw,
     fold: peer::fold,
