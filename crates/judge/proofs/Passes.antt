@@ -2,7 +2,7 @@
 use mathlib.Core.Path.{_≡_, refl, sym, ap, _∙_}
 use mathlib.Core.Bool.{Bool, true, false, not, _&&_, _||_, or-true}
 use mathlib.Core.List.{List, [], _∷_}
-use Prim.Native.Nat.{ℕ, _+_, _-_, _≤_, _<_}
+use Prim.Native.Nat.{ℕ, zero, suc, _+_, _-_, _≤_, _<_}
 use native.Mathlib.Numerals.{add-one}
 use native.Mathlib.Omega.{arith}
 use borrow.Author.Tests.{eqb-true, ne-eqb, lt-ltb}
@@ -49,6 +49,15 @@ pass-run head clear es h = ap (λ (q : Pass). q .run) h
 pub pass-order : {p : Pass} (head : Head) (clear : Bool) (es : List Entry) → p ≡ passOf head clear es → p .ordered ≡ areInOrder head es
 unfolding passOf
 pass-order head clear es h = ap (λ (q : Pass). q .ordered) h
+
+-- where an entry is held there is one
+pub held-some : {p : Pass} (head : Head) (body : List ℕ) → IsPass head body p → p .held ≡ true → 0 < p .run .count
+unfolding passOf entriesTo heldOf isThere
+held-some {p} head body is h = some (p .run .count) (sym (ap (λ (q : Pass). q .held) (is .same)) ∙ h)
+  where
+    some : (k : ℕ) → passOf head (p .apart) (entriesTo k body) .held ≡ true → 0 < k
+    some zero t = false-is t
+    some (suc k) t = omega arith
 
 -- ---- one entry on
 module _ (body : List ℕ) (e : Entry) (p q : Pass) (run : p .run ≡ runOf (entriesTo (p .run .count) body)) (read : e ≡ entryAt body (entryStart (p .run .count))) (more-run : (es : List Entry) → p .run ≡ runOf es → q .run ≡ runOf (e ∷ es)) where

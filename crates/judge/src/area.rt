@@ -1,7 +1,7 @@
 // What an area is: all zero, damaged, or sound with what is counted of its entries.
 ghost use mathlib.Core.Path.{_≡_};
-ghost use mathlib.Core.Bool.{false, cond};
-ghost use Prim.Native.Nat.{_-_, _≤_};
+ghost use mathlib.Core.Bool.{true, false, cond};
+ghost use Prim.Native.Nat.{_-_, _≤_, _<_};
 ghost use lib.ListN.{length};
 ghost use Rattle.arithmetic.specs.Powers.{tenTo};
 ghost use Rattle.terms.specs.Entry.{slotAt};
@@ -22,7 +22,6 @@ use crate::passed::pass_over;
 use crate::read::entry_at;
 use crate::read::head_at;
 use crate::run::Run;
-use crate::run::one_less;
 use journal::plate::is_plate;
 use register::area::Layout;
 use register::head::Head;
@@ -81,17 +80,18 @@ fn last_value(body: &[u8], run: Run) -> u32
 
 // How many entries are kept: all but a held one.
 fn kept_of(count: u8, held: bool) -> u8
+    requires { ⌜ (held ≡ true → 0 < count) ⌝ }
     ensures { λ r. ⌜ r ≡ cond held (count - 1) count ⌝ }
 {
     if held {
-        return one_less(count);
+        return count - 1;
     }
     count
 }
 
 // What is counted, once all entries are passed.
 fn summary_of(body: &[u8], head: Head, limit: u32, pass: Pass) -> Summary
-    requires { ⌜ (entryStart (pass .run .count) ≤ length (now body)) × (pass .run ≡ runOf (entriesTo (pass .run .count) (now body))) ⌝ }
+    requires { ⌜ (entryStart (pass .run .count) ≤ length (now body)) × (pass .run ≡ runOf (entriesTo (pass .run .count) (now body))) × (pass .held ≡ true → 0 < pass .run .count) ⌝ }
     ensures { λ r. ⌜ (limit ≡ tenTo (head .dials) → IsPass head (now (body .entry)) pass → r ≡ summaryOf (record { head = head; entries = entriesTo (pass .run .count) (now (body .entry)) })) ⌝ }
 {
     let run = pass.run;

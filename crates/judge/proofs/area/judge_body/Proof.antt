@@ -5,7 +5,7 @@ use native.Mathlib.Omega.{arith}
 use borrow.Author.Tests.{not-true, not-false}
 use Rattle.judge.specs.Inner.Judged.{isWhole}
 use Rattle.judge.specs.Inner.Pass.{IsPassed}
-use Rattle.judge.proofs.Passes.{pass-run}
+use Rattle.judge.proofs.Passes.{pass-run, held-some}
 use Rattle.judge.proofs.Verdicts.{body-damaged, body-judged, whole-ordered, pass-room, damaged-answers, sound-answers}
 use borrow.Author.Needs.{needs}
 use Rattle.judge.proofs.area.judge_body.Statement.{statement}
@@ -48,7 +48,7 @@ module _ (c : tie.Else1) where
   order = whole-ordered _ is sound
 
 summary-of-requires : tie.Need-summary-of-requires
-summary-of-requires c κs = (pass-room _ (is c) (order c) (start c .pre), pass-run _ _ _ (is c .pass (order c) .same))
+summary-of-requires c κs = (pass-room _ (is c) (order c) (start c .pre), pass-run _ _ _ (is c .pass (order c) .same), held-some _ _ (is c .pass (order c)))
 
 returns-2 : tie.Need-returns-2
 returns-2 c =
