@@ -140,7 +140,7 @@ uint8_t necktureen_enrol(uint8_t *reg, size_t length, uint16_t place, uint8_t di
                          uint8_t *flag, int64_t *advance);
 
 /* Enrols a pseudo meter, for a site that has no dial, with the same arguments and the same answers. It takes reads of
- * types I and F only; any other is answered 29. All else is as with any meter. */
+ * types I and F only; one of the nine other types is answered 29. All else is as with any meter. */
 uint8_t necktureen_enrol_pseudo(uint8_t *reg, size_t length, uint16_t place, uint8_t dials, uint32_t capacity,
                                 uint8_t *flag, int64_t *advance);
 

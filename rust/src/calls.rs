@@ -16,7 +16,8 @@ pub fn enrol(register: &mut [u8], place: u16, dials: u8, capacity: u32) -> Answe
 }
 
 /// Enrols a pseudo meter, for a site that has no dial, with the same arguments and the same answers as [`enrol`]. It
-/// takes reads of types I and F only; any other is answered [`Number::OtherType`]. All else is as with any meter.
+/// takes reads of types I and F only; one of the nine other types is answered [`Number::OtherType`]. All else is as with
+/// any meter.
 pub fn enrol_pseudo(register: &mut [u8], place: u16, dials: u8, capacity: u32) -> Answer {
     let (at, length) = (register.as_mut_ptr(), register.len());
     let (mut flag, mut advance) = (0, 0);

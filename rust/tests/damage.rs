@@ -94,7 +94,8 @@ fn damage_of_every_clause_is_answered_4_and_left_as_it_is() {
     }
 }
 
-/// It is not by the types of its reads that a pseudo meter's area is damaged here: as an ordinary meter's it is so too.
+/// It is not by the types of its reads alone that a pseudo meter's area is damaged here: as an ordinary meter's it is so
+/// too.
 #[test]
 fn the_clauses_are_those_of_any_meter() {
     for (clause, mut bytes) in damaged(PSEUDO) {

@@ -24,7 +24,8 @@ use Rattle.journal.specs.Inner.Follow.{isAfter, mayStand, mayFollow}
 use Rattle.journal.proofs.InOrder.{in-order-more}
 use Rattle.calls.specs.Checks.{isWithdrawnRead, isFull, takenFlag, recent, contentRules, sameDayRules, orderRules, indicatorRules, volumeRules, submitChecks}
 use Rattle.calls.specs.Calls.{entryFor, isVolumeQuery}
-use Rattle.calls.proofs.Bools.{both, together, neither, either-of, or-false, left-or, right-or, by-test}
+use Rattle.calls.proofs.Bools.{both, together, either-of, or-false, left-or, right-or, by-test}
+use Rattle.journal.proofs.Bools.{neither}
 use Rattle.calls.proofs.Passed.{Passed, IsOther, Checked, checked, good-body, known, one-final, may-stand, known-holdable, IsQuery, query-checked, query-exists, is-after}
 use Rattle.calls.proofs.Lists.{none-held, none-held-empty, standing-kept, withdrawn-kept}
 use Rattle.calls.proofs.Carried.{carries-more}

@@ -10,10 +10,6 @@ both x y = and-eq-true-iff x y .0
 pub together : {x y : Bool} → x ≡ true → y ≡ true → x && y ≡ true
 together p q = rw (p, q)
 
-pub neither : (x y : Bool) → x || y ≡ false → (x ≡ false) × (y ≡ false)
-neither true y h = absurd (let z : _≡_ {A = ℕ} 0 1 = cc in omega arith)
-neither false y h = (refl, h)
-
 pub or-false : {x y : Bool} → x ≡ false → y ≡ false → x || y ≡ false
 or-false p q = rw (p, q)
 

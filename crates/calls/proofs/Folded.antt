@@ -18,7 +18,8 @@ use Rattle.journal.proofs.Entries.{those-at-most}
 use Rattle.calls.specs.Checks.{leastToFold, isNoFold}
 use Rattle.journal.specs.Total.{flaggedOf, flaggedIn, firstIn}
 use Rattle.calls.specs.Fold.{keptFrom, stays, carryAfter, headAfter}
-use Rattle.calls.proofs.Bools.{both, together, neither, right-or, by-test}
+use Rattle.calls.proofs.Bools.{both, together, right-or, by-test}
+use Rattle.journal.proofs.Bools.{neither}
 use Rattle.calls.proofs.Lists.{every-those}
 use Rattle.calls.proofs.Carried.{carries}
 use Rattle.calls.proofs.Clauses.{Clauses, clauses-of, of-clauses}

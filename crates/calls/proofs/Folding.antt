@@ -14,7 +14,8 @@ use Rattle.journal.specs.Journal.{standing, withdrawn, dayOf}
 use Rattle.journal.specs.Sound.{every, any, isLater, daysRise, isFinalRead, exists, mayBeHeld, isHeldRight}
 use Rattle.calls.specs.Checks.{leastToFold}
 use Rattle.calls.specs.Fold.{keptFrom, stays}
-use Rattle.calls.proofs.Bools.{both, together, neither, or-false, left-or, apart, by-test}
+use Rattle.calls.proofs.Bools.{both, together, or-false, left-or, apart, by-test}
+use Rattle.journal.proofs.Bools.{neither}
 use Rattle.calls.proofs.Lists.{every-those, none-held-right}
 
 -- ---- lists under tests

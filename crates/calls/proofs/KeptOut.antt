@@ -24,7 +24,8 @@ use Rattle.calls.specs.Play.{exchanges, registerAfter, zeroRegister, num
 use Rattle.calls.specs.Ledger.{Named, named, Ledger, emptyLedger, ledgerOf, isSameRead, isAmong, areNoneOf}
 use Rattle.calls.specs.DemandThree.{namesOf}
 use Rattle.calls.specs.FoldKeeps.{isKeptOut, WithdrawnStayOut}
-use Rattle.calls.proofs.Bools.{both, together, neither, left-or, right-or, either-of, by-test, apart}
+use Rattle.calls.proofs.Bools.{both, together, left-or, right-or, either-of, by-test, apart}
+use Rattle.journal.proofs.Bools.{neither}
 use Rattle.calls.proofs.Names.{same-is}
 use Rattle.calls.proofs.Passed.{day-after}
 use Rattle.calls.proofs.Folded.{days-apart}

@@ -34,7 +34,8 @@ use Rattle.calls.specs.declared.call.Reply.the-variants.{Answered}
 use Rattle.calls.specs.Checks.{enrolChecks, submitChecks, withdrawChecks, foldChecks}
 use Rattle.calls.specs.Calls.{act, Acted, plateOf, entryFor, enrolIn, submitIn, withdrawIn, withdrawnAnswer, isVolumeQuery, foldIn}
 use Rattle.calls.specs.Fold.{foldedJournal}
-use Rattle.calls.proofs.Bools.{both, neither, by-test}
+use Rattle.calls.proofs.Bools.{both, by-test}
+use Rattle.journal.proofs.Bools.{neither}
 use Rattle.calls.proofs.Broken.{unbroken}
 use Rattle.calls.proofs.Zeros.{zero-at, zero-drop}
 use Rattle.calls.proofs.Lists.{every-those}

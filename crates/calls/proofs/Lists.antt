@@ -12,7 +12,8 @@ use Rattle.terms.specs.declared.entry.Slot.the-variants.{Empty}
 use Rattle.terms.specs.Entry.{kindStanding, kindWithdrawn, kindHeld, kindCarry, isStanding, isWithdrawn, isHeld, keepIf, those}
 use Rattle.journal.specs.Journal.{isKept, standing, withdrawn, kept, slotIf, heldOf, isThere}
 use Rattle.journal.specs.Sound.{every, any, isInRange, isRead, isHeldRight}
-use Rattle.calls.proofs.Bools.{both, together, neither, or-false, left-or, right-or, apart, by-test}
+use Rattle.calls.proofs.Bools.{both, together, or-false, left-or, right-or, apart, by-test}
+use Rattle.journal.proofs.Bools.{neither}
 
 -- ---- those of those
 module _ (p q : Entry → Bool) where

@@ -13,7 +13,8 @@ use Rattle.terms.specs.Letter.{isOpening}
 use Rattle.journal.specs.Journal.{isKept, standing, withdrawn, newestAt}
 use Rattle.journal.specs.Sound.{every, any, isInRange, isRead, daysRise, opensRight, isFinalRead, hasOneFinal, hasRead, isApartFrom, areApart, carriesRight, isHeldRight, isLater, areSound}
 use Rattle.journal.proofs.Entries.{any-kept}
-use Rattle.calls.proofs.Bools.{both, together, neither, or-false, apart, by-test}
+use Rattle.calls.proofs.Bools.{both, together, or-false, apart, by-test}
+use Rattle.journal.proofs.Bools.{neither}
 use Rattle.calls.proofs.Lists.{none-held-right, rest-kept}
 use Rattle.calls.proofs.Clauses.{clauses-of, of-clauses}
 

@@ -26,7 +26,8 @@ use Rattle.journal.specs.Sound.{any, hasRead, holds, opens, isInRange, isFinalR
 use Rattle.journal.specs.Inner.Follow.{isAfter, mayStand}
 use Rattle.calls.specs.Checks.{isBadContent, isOtherType, isBadDate, isWithdrawnRead, isBackDated, isUnopened, isATLater, isOpeningIndicated, isFull, indicatedIn, takenFlag, recent, sameDay, contentRules, sameDayRules, orderRules, indicatorRules, volumeRules, submitRules, submitChecks}
 use Rattle.calls.specs.Calls.{entryFor}
-use Rattle.calls.proofs.Bools.{together, neither, right-or, apart, by-test}
+use Rattle.calls.proofs.Bools.{together, right-or, apart, by-test}
+use Rattle.journal.proofs.Bools.{neither}
 use Rattle.calls.proofs.Broken.{Unbroken, haveOthers, past-group}
 
 -- ---- the rules before those of volume

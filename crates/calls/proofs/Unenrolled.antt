@@ -18,7 +18,8 @@ use Rattle.calls.specs.Checks.{reportChecks}
 use Rattle.calls.specs.Calls.{reportIn, act, placeOf, step}
 use Rattle.calls.specs.Play.{Exchange, exchange, exchanges, numberOf, mayChange, names}
 use Rattle.calls.specs.Ledger.{Ledger, emptyLedger, isAccepted, ledgerAfter, ledgerOf, hasAccepted, isEnrolment, hasEnrolment}
-use Rattle.calls.proofs.Bools.{together, neither, or-false, by-test}
+use Rattle.calls.proofs.Bools.{together, or-false, by-test}
+use Rattle.journal.proofs.Bools.{neither}
 use Rattle.calls.proofs.Frame.{Local, Whole, Near, room, own-reply, own-area-after, step-whole, other-area}
 use Rattle.calls.proofs.Effects.{Effects}
 

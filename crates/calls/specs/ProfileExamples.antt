@@ -1,7 +1,7 @@
 -- 02, 4, Pseudo meters: examples that fix what a profile means. The meter is at place 7, as in the other examples.
 use mathlib.Core.Path.{_≡_}
 use mathlib.Core.Bool.{Bool, true, false}
-use mathlib.Core.List.{List, [], _∷_}
+use mathlib.Core.List.{[], _∷_}
 use Prim.Native.Nat.{ℕ}
 use lib.IntN.{pos}
 use Rattle.terms.specs.declared.entry.Entry.{Entry}

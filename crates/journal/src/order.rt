@@ -43,7 +43,7 @@ pub fn has_read(day: u16, value: u32, e: Entry) -> bool
     (e.day == day) & (e.value == value)
 }
 
-// The ranges of an entry's fields; the limit is what the dials hold. Most entries pass every test, so that the early returns cost little.
+// The ranges of an entry's fields; the limit is 10^n. Most entries pass every test, so that the early returns cost little.
 fn is_in_range(head: Head, limit: u32, e: Entry) -> bool
     ensures { λ r. ⌜ (limit ≡ tenTo (head .dials) → r ≡ isInRange head e) ⌝ }
 {

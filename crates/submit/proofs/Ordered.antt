@@ -16,9 +16,8 @@ use Rattle.journal.specs.Journal.{Journal, standing, isThere, dayOf, onDay}
 use Rattle.journal.specs.Sound.{any, isFinalRead, exists}
 use Rattle.judge.specs.declared.area.Summary.{Summary}
 use Rattle.judge.specs.Inner.Judged.{countsOf, summaryOf}
-use Rattle.journal.proofs.Bools.{false-is}
+use Rattle.journal.proofs.Bools.{false-is, neither}
 use Rattle.calls.specs.Checks.{isBadDate, isBackDated, sameDay, contentRules, sameDayRules}
-use Rattle.calls.proofs.Bools.{neither}
 use Rattle.calls.proofs.Broken.{unbroken}
 
 -- ---- back-dated

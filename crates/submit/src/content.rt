@@ -24,7 +24,7 @@ fn is_missing(s: Submission) -> bool
     s.value == UNPOPULATED
 }
 
-// 6: the type, the indicator, the re-read mark or the value is out of range. The limit is what the dials hold.
+// 6: the type, the indicator, the re-read mark or the value is out of range. The limit is 10^n.
 fn is_bad_content(limit: u32, s: Submission) -> bool
     ensures { λ r. ⌜ ((n : ℕ) → limit ≡ tenTo n → r ≡ isBadContent n s) ⌝ }
 {

@@ -35,6 +35,7 @@ unfoldable pub takesAll : Profile → Bool
 takesAll Ordinary = true
 takesAll Pseudo = false
 
+-- the limits of one
 pub record IsAll (head : Head) (l : Limits) : Type 0 where
   pub limits : IsLimits head l
   pub all : takesAll (head .profile) ≡ true

@@ -18,7 +18,7 @@ use Rattle.reads.proofs.Counted.{day-is}
 use Rattle.reads.proofs.Totals.{standing-counted, flagged-counted}
 use Rattle.calls.specs.Checks.{leastToFold, isNoFold}
 use Rattle.calls.specs.Fold.{readsKept, carryAfter}
-use Rattle.calls.proofs.Bools.{neither}
+use Rattle.journal.proofs.Bools.{neither}
 use Rattle.calls.proofs.Days.{few-standing, few-flagged}
 use Rattle.fold.specs.Inner.Flags.{flagsIn}
 use Rattle.fold.proofs.Flags.{flags-apart}

@@ -1,3 +1,4 @@
+-- A held entry is counted, so that one can be taken off.
 use native.Mathlib.Omega.{arith}
 use borrow.Author.Needs.{needs}
 use Rattle.judge.proofs.area.kept_of.Statement.{statement}

@@ -9,7 +9,7 @@ use borrow.Author.Needs.{needs}
 use Rattle.submit.proofs.content.content_number.Statement.{statement}
 use Rattle.submit.proofs.content.content_number.Tie as tie
 
--- what the dials hold, and the head
+-- the limit is 10^n, and the head is the journal's
 limit-is : {t : Summary} (j : Journal) → t ≡ summaryOf j → t .limit ≡ tenTo (j .head .dials)
 unfolding summaryOf
 limit-is j h = ap (λ (t : Summary). t .limit) h

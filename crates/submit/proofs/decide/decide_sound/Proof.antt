@@ -1,10 +1,8 @@
 -- The first group that gives a number decides, each asked of the journal that was counted.
-use mathlib.Core.Path.{_≡_, ap, sym, _∙_}
+use mathlib.Core.Path.{_≡_, sym, _∙_}
 use borrow.Author.Tests.{ne-eqb, eq-eqb}
 use Rattle.terms.specs.Rule.{firstBroken}
 use Rattle.journal.specs.Journal.{journalOf}
-use Rattle.judge.specs.declared.area.Summary.{Summary}
-use Rattle.judge.specs.Inner.Judged.{summaryOf}
 use Rattle.calls.specs.Checks.{contentRules, sameDayRules, orderRules}
 use Rattle.submit.proofs.Ordered.{date-good, none-on-day}
 use Rattle.submit.proofs.Stages.{in-groups}
