@@ -10,7 +10,7 @@ use Rattle.terms.specs.declared.profile.Profile.the-variants.{Ordinary, Pseudo}
 use Rattle.terms.specs.declared.submission.Submission.{Submission}
 use Rattle.terms.specs.Answer.{answer}
 use Rattle.terms.specs.Entry.{kindStanding, kindWithdrawn, kindHeld, indicatorNotSet, indicatorTrue}
-use Rattle.terms.specs.Letter.{letterI, letterO, letterF, letterC, letterE}
+use Rattle.terms.specs.Letter.{letterI, letterO, letterF, letterC, letterU, letterR, letterT, letterS, letterX, letterY, letterE}
 use Rattle.terms.specs.Number.{accepted, content, otherType, date}
 use Rattle.terms.specs.Rule.{firstBroken}
 use Rattle.register.specs.declared.head.Carry.{Carry}
@@ -63,12 +63,19 @@ pub record ProfileExamplesHold : Type 0 where
   pub pseudo-picked : isPicked meter enrolledPseudo ≡ true
   pub pseudo-ledger : ledgerOf meter (enrolledPseudo ∷ []) ≡ record { standing = []; advances = pos 0; flags = pos 0; dials = 6; withdrawn = []; folded = 0 }
   pub pseudo-enrolled : hasEnrolment meter (enrolledPseudo ∷ []) ≡ true
-  -- "Such a meter takes types I and F only", and an ordinary one all eleven
+  -- "Such a meter takes types I and F only"; 001, 2.1.4: "all other Read Types will not be accepted", and it names them
   pub initial-taken : contentNumber Pseudo (typed letterI 1540 indicatorNotSet) ≡ accepted
   pub final-taken : contentNumber Pseudo (typed letterF 1540 indicatorTrue) ≡ accepted
   pub opening-not : contentNumber Pseudo (typed letterO 1540 indicatorNotSet) ≡ otherType
   pub cyclic-not : contentNumber Pseudo (typed letterC 1540 indicatorNotSet) ≡ otherType
+  pub customer-not : contentNumber Pseudo (typed letterU 1540 indicatorNotSet) ≡ otherType
+  pub amr-not : contentNumber Pseudo (typed letterR 1540 indicatorNotSet) ≡ otherType
+  pub transfer-not : contentNumber Pseudo (typed letterT 1540 indicatorNotSet) ≡ otherType
+  pub estimated-transfer-not : contentNumber Pseudo (typed letterS 1540 indicatorNotSet) ≡ otherType
+  pub disconnection-not : contentNumber Pseudo (typed letterX 1540 indicatorNotSet) ≡ otherType
+  pub reconnection-not : contentNumber Pseudo (typed letterY 1540 indicatorNotSet) ≡ otherType
   pub end-not : contentNumber Pseudo (typed letterE 1540 indicatorNotSet) ≡ otherType
+  -- an ordinary one takes all eleven
   pub ordinary-opening : contentNumber Ordinary (typed letterO 1540 indicatorNotSet) ≡ accepted
   pub ordinary-end : contentNumber Ordinary (typed letterE 1540 indicatorNotSet) ≡ accepted
   -- "29, .. after 6", and before 7: an unknown type and a bad indicator are 6, a read of day 0 is 29
