@@ -1,5 +1,6 @@
 pub mod Journal
 pub mod Sound
+pub mod Plates
 pub mod Numbers
 pub mod Total
 pub mod Inner

@@ -27,9 +27,10 @@ unfoldable pub any : (Entry → Bool) → List Entry → Bool
 any test [] = false
 any test (e ∷ es) = test e || any test es
 
--- "Kind 1, meter, first and only first: dials n (1 byte, 4 to 9), capacity in m³ a year (4 bytes, at least 1)."
+-- "Kind 1, meter, first and only first: dials n (1 byte, ..), capacity in m³ a year (4 bytes, at least 1)." 02, 5: "Enrolment takes 3 to 9
+-- dials and a sound journal follows."
 abbrev pub leastDials : ℕ
-leastDials = 4
+leastDials = 3
 
 abbrev pub mostDials : ℕ
 mostDials = 9

@@ -1,5 +1,6 @@
 // The plate of a meter: its dials and its capacity.
 ghost use mathlib.Core.Path.{_≡_};
+ghost use Rattle.journal.specs.Plates.{PlatesHold};
 ghost use Rattle.journal.specs.Sound.{isPlate};
 use register::head::Head;
 
@@ -7,7 +8,7 @@ use register::head::Head;
 pub struct Dials;
 
 impl Dials {
-    pub const LEAST: u8 = 4;
+    pub const LEAST: u8 = 3;
 
     pub const MOST: u8 = 9;
 }
@@ -18,3 +19,8 @@ pub fn is_plate(head: Head) -> bool
 {
     (Dials::LEAST <= head.dials) & ((head.dials <= Dials::MOST) & !(head.capacity == 0))
 }
+
+// Does nothing: its contract is the claim about the examples of plates.
+pub fn plates_hold()
+    ensures { λ _. ⌜ PlatesHold ⌝ }
+{}

@@ -1,8 +1,10 @@
 -- What the rules' proofs share: the word that `advance` returns, the products of `scaled`, and ten times an advance against 10^n.
-use mathlib.Core.Path.{_≡_, ap, _∙_}
+use mathlib.Core.Path.{_≡_, refl, ap, _∙_}
+use mathlib.Core.Bool.{Bool, true, false, cond}
 use Prim.Native.Nat.{ℕ, _^_, _≤_, _<_}
 use native.Mathlib.Omega.{arith}
-use lib.IntN.{ℤ, pos, _*ℤ_}
+use lib.Dec.{eqb}
+use lib.IntN.{ℤ, pos, negℤ, _-ℤ_, _*ℤ_}
 use lib.Signed.{mag, ltZ}
 use borrow.Author.Needs.{sfits-of}
 use mir.Syntax.{w64}
@@ -12,8 +14,8 @@ use Rattle.arithmetic.specs.Powers.{tenTo}
 use Rattle.arithmetic.specs.Advance.{advanceOf}
 use Rattle.arithmetic.specs.Inner.Bounds.{advanceMost, Within}
 use Rattle.arithmetic.proofs.Laws.{ten-at-most, advance-within}
-use Rattle.arithmetic.proofs.Signed.{Word, word-cast, word-of, word-product, fits-product}
-use Rattle.rules.specs.Settings.{fraction}
+use Rattle.arithmetic.proofs.Signed.{Word, word-cast, word-of, word-difference, fits-difference, word-product, fits-product}
+use Rattle.rules.specs.Settings.{stepBack, fraction}
 use Rattle.rules.specs.Detection.{scaledOf, isSmallPart}
 
 -- the word that holds z reads as the advance a
@@ -51,3 +53,30 @@ power-fits p n e = rw e (record { sfits = omega (arith, ten-at-most n) })
 -- and is the word of 10^n
 pub power-word : (p n : ℕ) → p ≡ tenTo n → Word p (pos (tenTo n)) 1000000000
 power-word p n e = rw e (word-cast (ten-at-most n) tt)
+
+-- ---- the limit of a small step back, on any dials
+limit-at-most : (isThree : Bool) → cond isThree 100 1000 ≤ 1000
+limit-at-most true = omega arith
+limit-at-most false = omega arith
+
+below-none : (isThree : Bool) → pos 0 -ℤ pos (cond isThree 100 1000) ≡ negℤ (pos (cond isThree 100 1000))
+below-none true = refl
+below-none false = refl
+
+module _ (x n : ℕ) (e : x ≡ stepBack n) where
+  at-most : stepBack n ≤ 1000
+  unfolding stepBack
+  at-most = limit-at-most (eqb n 3)
+
+  pub limit-fits : SFits w64 (pos x)
+  limit-fits = rw e (record { sfits = omega (arith, at-most) })
+
+  pub back-fits : SFits w64 (toZ w64 0 -ℤ toZ w64 x)
+  back-fits = rw e (fits-difference 0 (stepBack n) 1000 (omega arith) at-most tt)
+
+  negated : pos 0 -ℤ pos (stepBack n) ≡ negℤ (pos (stepBack n))
+  unfolding stepBack
+  negated = below-none (eqb n 3)
+
+  pub back-reads : toZ w64 (ofZ w64 (toZ w64 0 -ℤ toZ w64 x)) ≡ negℤ (pos (stepBack n))
+  back-reads = rw e (word-difference 0 (stepBack n) 1000 (omega arith) at-most tt .reads ∙ negated)

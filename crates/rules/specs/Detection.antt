@@ -31,9 +31,9 @@ turnedAdvance n s r0 = advanceOf n (s .value) 1 (r0 .value)
 abbrev pub plainAdvance : ℕ → Entry → Entry → ℤ
 plainAdvance n newer older = advanceOf n (newer .value) 0 (older .value)
 
--- "Not a Rollover: no R0, or R1 − R0 > −1000."
+-- "Not a Rollover: no R0, or R1 − R0 >" −limit
 unfoldable pub isSmallStep : ℕ → Submission → Entry → Bool
-isSmallStep n s r0 = ltZ (negℤ (pos stepBack)) (advanceOf n (s .value) 0 (r0 .value))
+isSmallStep n s r0 = ltZ (negℤ (pos (stepBack n))) (advanceOf n (s .value) 0 (r0 .value))
 
 unfoldable pub isNotRollover : ℕ → Submission → Slot → Bool
 isNotRollover n s (Read r0) = isSmallStep n s r0

@@ -1,4 +1,5 @@
--- 01, Pairs at an edge: those marked P, as one table under one claim. "Four dials; spacing 180 days where it counts."
+-- 01, Pairs at an edge: those marked P, as one table under one claim. "Four dials; spacing 180 days where it counts." 02, 5: the pairs of
+-- detection for three dials too.
 use mathlib.Core.Path.{_≡_}
 use mathlib.Core.Bool.{Bool, true, false, _&&_, cond}
 use mathlib.Core.List.{List, [], _∷_}
@@ -34,6 +35,7 @@ plain (value ∷ values) = stood value 0 ∷ plain values
 -- a cyclic read with the indicator not set, submitted after the standing ones, the newest first, of which the oldest is of the day first; and what
 -- the rules say of it
 pub record Edge : Type 0 where
+  pub dials : ℕ
   pub first : ℕ
   pub spacing : ℕ
   pub capacity : ℕ
@@ -42,17 +44,34 @@ pub record Edge : Type 0 where
   pub says : Detected
   pub number : ℕ
 
-abbrev pub edgeAfter : List Stood → ℕ → ℕ → ℕ → Detected → ℕ → Edge
-edgeAfter standing spacing capacity submitted says number =
-    record { first = 1; spacing = spacing; capacity = capacity; standing = standing; submitted = submitted; says = says; number = number }
+-- the spacing where it counts, and the largest capacity, so that detection and threshold decide
+abbrev pub halfYear : ℕ
+halfYear = 180
 
-abbrev pub edge : ℕ → ℕ → List ℕ → ℕ → Detected → ℕ → Edge
-edge spacing capacity standing submitted says number = edgeAfter (plain standing) spacing capacity submitted says number
+abbrev pub ample : ℕ
+ample = 4294967295
 
--- a capacity, and an advance in the ten days from a day on
+abbrev pub edgeAfter : ℕ → List Stood → ℕ → Detected → ℕ → Edge
+edgeAfter dials standing submitted says number =
+    record {
+      dials = dials;
+      first = 1;
+      spacing = halfYear;
+      capacity = ample;
+      standing = standing;
+      submitted = submitted;
+      says = says;
+      number = number;
+    }
+
+abbrev pub edge : ℕ → List ℕ → ℕ → Detected → ℕ → Edge
+edge dials standing submitted says number = edgeAfter dials (plain standing) submitted says number
+
+-- four dials, a capacity, and an advance in the ten days from a day on
 abbrev pub inTenDays : ℕ → ℕ → ℕ → ℕ → Edge
 inTenDays first capacity advance number =
     record {
+      dials = 4;
       first = first;
       spacing = 10;
       capacity = capacity;
@@ -79,52 +98,51 @@ toDecember31 = 356
 abbrev pub toJanuary1 : ℕ
 toJanuary1 = 357
 
--- the spacing of all but the last pair, and a capacity that none of them reaches
-abbrev pub halfYear : ℕ
-halfYear = 180
-
-abbrev pub ample : ℕ
-ample = 5000
-
 unfoldable pub edges : List Edge
 edges =
-    edge halfYear ample (5000 ∷ []) 4001 NotRollover accepted
-    ∷ edge halfYear ample (5000 ∷ []) 4000 Indeterminate readEF
-    ∷ edge halfYear ample (9800 ∷ 9600 ∷ 9400 ∷ []) 50 Rollover accepted
-    ∷ edge halfYear ample (9800 ∷ 9600 ∷ []) 50 Indeterminate readEF
-    ∷ edge halfYear ample (9800 ∷ 9600 ∷ 9400 ∷ []) 199 Rollover accepted
-    ∷ edge halfYear ample (9800 ∷ 9600 ∷ 9400 ∷ []) 200 Indeterminate readEF
-    ∷ edge halfYear ample (1200 ∷ 1000 ∷ []) 1240 NotRollover accepted
-    ∷ edge halfYear ample (1200 ∷ 1000 ∷ []) 1239 NotRollover low
-    ∷ edge halfYear ample (1200 ∷ 1000 ∷ []) 1600 NotRollover accepted
-    ∷ edge halfYear ample (1200 ∷ 1000 ∷ []) 1601 NotRollover high
+    edge 4 (5000 ∷ []) 4001 NotRollover accepted
+    ∷ edge 4 (5000 ∷ []) 4000 Indeterminate readEF
+    ∷ edge 4 (9800 ∷ 9600 ∷ 9400 ∷ []) 50 Rollover accepted
+    ∷ edge 4 (9800 ∷ 9600 ∷ []) 50 Indeterminate readEF
+    ∷ edge 4 (9800 ∷ 9600 ∷ 9400 ∷ []) 199 Rollover accepted
+    ∷ edge 4 (9800 ∷ 9600 ∷ 9400 ∷ []) 200 Indeterminate readEF
+    ∷ edge 4 (1200 ∷ 1000 ∷ []) 1240 NotRollover accepted
+    ∷ edge 4 (1200 ∷ 1000 ∷ []) 1239 NotRollover low
+    ∷ edge 4 (1200 ∷ 1000 ∷ []) 1600 NotRollover accepted
+    ∷ edge 4 (1200 ∷ 1000 ∷ []) 1601 NotRollover high
     ∷ inTenDays from2001 365 9 accepted
     ∷ inTenDays from2001 365 10 overCapacity
+    -- 02, 5: "The limit is −100 for three dials", and the marks of a turn are 900 and 100
+    ∷ edge 3 (500 ∷ []) 401 NotRollover accepted
+    ∷ edge 3 (500 ∷ []) 400 Indeterminate readEF
+    ∷ edge 3 (980 ∷ 960 ∷ 940 ∷ []) 19 Rollover accepted
+    ∷ edge 3 (980 ∷ 960 ∷ 940 ∷ []) 20 Indeterminate readEF
+    ∷ edge 3 (980 ∷ 960 ∷ []) 19 Indeterminate readEF
     ∷ []
 
 -- ---- more edges of the same rules, where no pair of the paper has one
 unfoldable pub moreEdges : List Edge
 moreEdges =
     -- (2) "20 × A × (D1 − D0) < 100 × A0 × (D0 − D-1)": with A of 500 an A0 of 101 is above the least percentage, 100 is not
-    edge halfYear ample (9900 ∷ 9400 ∷ 8900 ∷ []) 1 Rollover accepted
-    ∷ edge halfYear ample (9900 ∷ 9400 ∷ 8900 ∷ []) 0 Indeterminate readEF
+    edge 4 (9900 ∷ 9400 ∷ 8900 ∷ []) 1 Rollover accepted
+    ∷ edge 4 (9900 ∷ 9400 ∷ 8900 ∷ []) 0 Indeterminate readEF
     -- (3) "10 × A0 < 10^n": A0 of 999 and of 1000
-    ∷ edge halfYear ample (9500 ∷ 8600 ∷ 7700 ∷ []) 499 Rollover accepted
-    ∷ edge halfYear ample (9500 ∷ 8600 ∷ 7700 ∷ []) 500 Indeterminate readEF
+    ∷ edge 4 (9500 ∷ 8600 ∷ 7700 ∷ []) 499 Rollover accepted
+    ∷ edge 4 (9500 ∷ 8600 ∷ 7700 ∷ []) 500 Indeterminate readEF
     -- (4) "10 × A < 10^n": A of 999 and of 1000
-    ∷ edge halfYear ample (9800 ∷ 8801 ∷ 8700 ∷ []) 50 Rollover accepted
-    ∷ edge halfYear ample (9800 ∷ 8800 ∷ 8700 ∷ []) 50 Indeterminate readEF
+    ∷ edge 4 (9800 ∷ 8801 ∷ 8700 ∷ []) 50 Rollover accepted
+    ∷ edge 4 (9800 ∷ 8800 ∷ 8700 ∷ []) 50 Indeterminate readEF
     -- (5) "10 × (R-1 − R-2) < 10^n": R-1 − R-2 of 999 and of 1000
-    ∷ edge halfYear ample (9800 ∷ 9600 ∷ 8601 ∷ []) 50 Rollover accepted
-    ∷ edge halfYear ample (9800 ∷ 9600 ∷ 8600 ∷ []) 50 Indeterminate readEF
+    ∷ edge 4 (9800 ∷ 9600 ∷ 8601 ∷ []) 50 Rollover accepted
+    ∷ edge 4 (9800 ∷ 9600 ∷ 8600 ∷ []) 50 Indeterminate readEF
     -- "R0 plain", "R-1 and R0 plain", "R-2 and R-1 plain"
-    ∷ edgeAfter (stood 9800 1 ∷ plain (9600 ∷ 9400 ∷ [])) halfYear ample 50 Indeterminate readEF
-    ∷ edgeAfter (stood 9800 0 ∷ stood 9600 1 ∷ stood 9400 0 ∷ []) halfYear ample 50 Indeterminate readEF
-    ∷ edgeAfter (stood 9800 0 ∷ stood 9600 0 ∷ stood 9400 1 ∷ []) halfYear ample 50 Indeterminate readEF
+    ∷ edgeAfter 4 (stood 9800 1 ∷ plain (9600 ∷ 9400 ∷ [])) 50 Indeterminate readEF
+    ∷ edgeAfter 4 (stood 9800 0 ∷ stood 9600 1 ∷ stood 9400 0 ∷ []) 50 Indeterminate readEF
+    ∷ edgeAfter 4 (stood 9800 0 ∷ stood 9600 0 ∷ stood 9400 1 ∷ []) 50 Indeterminate readEF
     -- "If that exists and p > 0": p of 1 is compared, p of 0 and of −10 is not
-    ∷ edge halfYear ample (1001 ∷ 1000 ∷ []) 1004 NotRollover high
-    ∷ edge halfYear ample (1000 ∷ 1000 ∷ []) 1001 NotRollover accepted
-    ∷ edge halfYear ample (990 ∷ 1000 ∷ []) 991 NotRollover accepted
+    ∷ edge 4 (1001 ∷ 1000 ∷ []) 1004 NotRollover high
+    ∷ edge 4 (1000 ∷ 1000 ∷ []) 1001 NotRollover accepted
+    ∷ edge 4 (990 ∷ 1000 ∷ []) 991 NotRollover accepted
     -- "a × 365 < capacity × d", and 366 "where the read's day falls in a calendar leap year": 10 in ten days is below 366 a year in 2001 and in
     -- 2100, and is not in 2000
     ∷ inTenDays from2000 366 9 accepted
@@ -134,6 +152,19 @@ moreEdges =
     -- it is the day of the read that counts, not that of the one before it: reads of 31 December 2000 and of 1 January 2001
     ∷ inTenDays toDecember31 366 10 overCapacity
     ∷ inTenDays toJanuary1 366 10 accepted
+    -- 02, 5: "and −1000 otherwise"; that a turn is seen by the dials' own range on the most of them too
+    ∷ edge 5 (5000 ∷ []) 4001 NotRollover accepted
+    ∷ edge 5 (5000 ∷ []) 4000 Indeterminate readEF
+    ∷ edge 6 (5000 ∷ []) 4001 NotRollover accepted
+    ∷ edge 6 (5000 ∷ []) 4000 Indeterminate readEF
+    ∷ edge 7 (5000 ∷ []) 4001 NotRollover accepted
+    ∷ edge 7 (5000 ∷ []) 4000 Indeterminate readEF
+    ∷ edge 8 (5000 ∷ []) 4001 NotRollover accepted
+    ∷ edge 8 (5000 ∷ []) 4000 Indeterminate readEF
+    ∷ edge 9 (5000 ∷ []) 4001 NotRollover accepted
+    ∷ edge 9 (5000 ∷ []) 4000 Indeterminate readEF
+    ∷ edge 9 (980000000 ∷ 960000000 ∷ 940000000 ∷ []) 19999999 Rollover accepted
+    ∷ edge 9 (980000000 ∷ 960000000 ∷ 940000000 ∷ []) 20000000 Indeterminate readEF
     ∷ []
 
 -- the standing reads of a row
@@ -162,15 +193,12 @@ submittedRead e =
       reread = 0;
     }
 
-abbrev pub dials : ℕ
-dials = 4
-
 unfoldable pub detectedAt : Edge → Detected
-detectedAt e = detected dials (submittedRead e) (recentOf (standingReads (e .first) (e .spacing) (e .standing)))
+detectedAt e = detected (e .dials) (submittedRead e) (recentOf (standingReads (e .first) (e .spacing) (e .standing)))
 
 -- the number that detection, indicator and volume give, in this order
 unfoldable pub numberAt : Edge → ℕ
-numberAt e = cond (eqb (indicatedNumber taken) accepted) (volumeNumber dials (e .capacity) (submittedRead e) (indicatedFlag taken) recent) (indicatedNumber taken)
+numberAt e = cond (eqb (indicatedNumber taken) accepted) (volumeNumber (e .dials) (e .capacity) (submittedRead e) (indicatedFlag taken) recent) (indicatedNumber taken)
   where
     taken : Indicated
     taken = indicated (detectedAt e) indicatorNotSet

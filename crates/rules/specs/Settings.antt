@@ -1,9 +1,11 @@
 -- 01, Detection: "The detection settings (1000, 90, 10, 20, 200, 10) are constants that belong to one named set."
+use mathlib.Core.Bool.{cond}
 use Prim.Native.Nat.{ℕ}
+use lib.Dec.{eqb}
 
--- a step back by less than this is small
-abbrev pub stepBack : ℕ
-stepBack = 1000
+-- a step back by less than this is small. 02, 5: "The limit is −100 for three dials and −1000 otherwise."
+unfoldable pub stepBack : ℕ → ℕ
+stepBack n = cond (eqb n 3) 100 1000
 
 -- the marks near a turn of the dials, in hundredths of the dials' range
 abbrev pub highMark : ℕ

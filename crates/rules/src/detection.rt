@@ -25,11 +25,12 @@ fn is_plain(e: Entry) -> bool
     e.flag == 0
 }
 
-// R1 − R0 > −1000.
+// R1 − R0 > −limit.
 fn is_small_step(n: u8, s: Submission, r0: Entry) -> bool
     ensures { λ r. ⌜ r ≡ isSmallStep n s r0 ⌝ }
 {
-    -Settings::STEP_BACK < advance(n, s.value, 0, r0.value)
+    let limit = Settings::step_back(n);
+    -(limit as i64) < advance(n, s.value, 0, r0.value)
 }
 
 // Test 1: the last value is high on the dials and the submitted one low.

@@ -5,6 +5,7 @@ use Prim.Native.Nat.{ℕ}
 use lib.Dec.{eqb}
 use Rattle.terms.specs.Number.{accepted}
 use Rattle.terms.specs.Rule.{firstBroken}
+use Rattle.rules.specs.Settings.{stepBack}
 use Rattle.rules.specs.Detection.{isPlain, scaledOf, isSmallStep, isNotRollover, isNearTurn, isLikeRate, isSmallPart, isSmallTurn, isSmallAdvance, isRollover, detected}
 use Rattle.rules.specs.Indicator.{indicated}
 use Rattle.calls.specs.Calls.{foldIn}
@@ -34,7 +35,7 @@ unfolding foldIn HasZeros
 fold-zeros area = by-test (eqb (firstBroken (foldChecks area)) accepted) (λ h. rw h (refl, refl)) (λ h. rw h (refl, refl))
 
 returns : tie.Need-returns
-unfolding isWithdrawn those any hasRead placeOf isWithdrawnRead numberOf names mayChange isPicked picked isSameRead takeOut emptyLedger flagOf entered isAccepted ledgerAfter ledgerOf hasAccepted isEnrolment hasEnrolment firstValueOf lastLessFirst isAmong areNoneOf year fourReads lessFirst keptFrom stays carryAfter headAfter foldedJournal isStanding isHeld slotAt dayOf isFlagged flaggedOf standingIn flaggedIn firstIn firstValue totalOf reportOf advanceOf tenTo isNoFold isFinal isOldestKept oldestOf noCarry mostEntries carriesRight isCarry isBefore holds isNotStanding isNotLast withdrawRules indicatedIn recentOf detected indicated isNotRollover isSmallStep isRollover isPlain scaledOf isNearTurn isLikeRate isSmallPart isSmallTurn isSmallAdvance headBytes offsetAfter wordAt longAt isCarryAt carryAt headOf meterKind profileOf
+unfolding isWithdrawn those any hasRead placeOf isWithdrawnRead numberOf names mayChange isPicked picked isSameRead takeOut emptyLedger flagOf entered isAccepted ledgerAfter ledgerOf hasAccepted isEnrolment hasEnrolment firstValueOf lastLessFirst isAmong areNoneOf year fourReads lessFirst keptFrom stays carryAfter headAfter foldedJournal isStanding isHeld slotAt dayOf isFlagged flaggedOf standingIn flaggedIn firstIn firstValue totalOf reportOf advanceOf tenTo isNoFold isFinal isOldestKept oldestOf noCarry mostEntries carriesRight isCarry isBefore holds isNotStanding isNotLast withdrawRules indicatedIn recentOf detected indicated isNotRollover stepBack isSmallStep isRollover isPlain scaledOf isNearTurn isLikeRate isSmallPart isSmallTurn isSmallAdvance headBytes offsetAfter wordAt longAt isCarryAt carryAt headOf meterKind profileOf
 returns c =
     record {
       report-picked = refl;
