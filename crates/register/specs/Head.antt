@@ -11,7 +11,7 @@ use Rattle.register.specs.declared.head.Head.{Head}
 use Rattle.register.specs.Bytes.{byteAt, wordAt, longAt, putWord, putLong}
 use Rattle.register.specs.Entries.{entryStart}
 
--- "Kind 1, meter, first and only first: dials n (1 byte, 4 to 9), capacity in m³ a year (4 bytes, at least 1)." 02, 4: "Kind 7 stands where
+-- "Kind 1, meter, first and only first: dials n (1 byte, ..), capacity in m³ a year (4 bytes, ..)." 02, 4: "Kind 7 stands where
 -- kind 1 would, same body".
 abbrev pub meterBytes : ℕ
 meterBytes = 6

@@ -1,10 +1,9 @@
--- What the rules' proofs share: the word that `advance` returns, the products of `scaled`, and ten times an advance against 10^n.
-use mathlib.Core.Path.{_≡_, refl, ap, _∙_}
-use mathlib.Core.Bool.{Bool, true, false, cond}
+-- What the rules' proofs share: the word that `advance` returns, the products of `scaled`, ten times an advance against 10^n, and a
+-- number of two bytes, negated.
+use mathlib.Core.Path.{_≡_, ap, _∙_}
 use Prim.Native.Nat.{ℕ, _^_, _≤_, _<_}
 use native.Mathlib.Omega.{arith}
-use lib.Dec.{eqb}
-use lib.IntN.{ℤ, pos, negℤ, _-ℤ_, _*ℤ_}
+use lib.IntN.{ℤ, pos, negℤ, _-ℤ_, _*ℤ_, +ℤ-idl}
 use lib.Signed.{mag, ltZ}
 use borrow.Author.Needs.{sfits-of}
 use mir.Syntax.{w64}
@@ -15,7 +14,7 @@ use Rattle.arithmetic.specs.Advance.{advanceOf}
 use Rattle.arithmetic.specs.Inner.Bounds.{advanceMost, Within}
 use Rattle.arithmetic.proofs.Laws.{ten-at-most, advance-within}
 use Rattle.arithmetic.proofs.Signed.{Word, word-cast, word-of, word-difference, fits-difference, word-product, fits-product}
-use Rattle.rules.specs.Settings.{stepBack, fraction}
+use Rattle.rules.specs.Settings.{fraction}
 use Rattle.rules.specs.Detection.{scaledOf, isSmallPart}
 
 -- the word that holds z reads as the advance a
@@ -54,29 +53,10 @@ power-fits p n e = rw e (record { sfits = omega (arith, ten-at-most n) })
 pub power-word : (p n : ℕ) → p ≡ tenTo n → Word p (pos (tenTo n)) 1000000000
 power-word p n e = rw e (word-cast (ten-at-most n) tt)
 
--- ---- the limit of a small step back, on any dials
-limit-at-most : (isThree : Bool) → cond isThree 100 1000 ≤ 1000
-limit-at-most true = omega arith
-limit-at-most false = omega arith
+-- a number of two bytes, negated
+module _ (x : ℕ) (h : x ≤ 65535) where
+  pub negated-fits : SFits w64 (toZ w64 0 -ℤ toZ w64 x)
+  negated-fits = fits-difference 0 x 65535 (omega arith) h tt
 
-below-none : (isThree : Bool) → pos 0 -ℤ pos (cond isThree 100 1000) ≡ negℤ (pos (cond isThree 100 1000))
-below-none true = refl
-below-none false = refl
-
-module _ (x n : ℕ) (e : x ≡ stepBack n) where
-  at-most : stepBack n ≤ 1000
-  unfolding stepBack
-  at-most = limit-at-most (eqb n 3)
-
-  pub limit-fits : SFits w64 (pos x)
-  limit-fits = rw e (record { sfits = omega (arith, at-most) })
-
-  pub back-fits : SFits w64 (toZ w64 0 -ℤ toZ w64 x)
-  back-fits = rw e (fits-difference 0 (stepBack n) 1000 (omega arith) at-most tt)
-
-  negated : pos 0 -ℤ pos (stepBack n) ≡ negℤ (pos (stepBack n))
-  unfolding stepBack
-  negated = below-none (eqb n 3)
-
-  pub back-reads : toZ w64 (ofZ w64 (toZ w64 0 -ℤ toZ w64 x)) ≡ negℤ (pos (stepBack n))
-  back-reads = rw e (word-difference 0 (stepBack n) 1000 (omega arith) at-most tt .reads ∙ negated)
+  pub negated-reads : toZ w64 (ofZ w64 (toZ w64 0 -ℤ toZ w64 x)) ≡ negℤ (pos x)
+  negated-reads = word-difference 0 x 65535 (omega arith) h tt .reads ∙ +ℤ-idl (negℤ (pos x))

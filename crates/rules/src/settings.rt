@@ -5,9 +5,9 @@ ghost use Rattle.rules.specs.Settings.{stepBack};
 pub struct Settings;
 
 impl Settings {
-    const STEP_BACK: u64 = 1000;
+    const STEP_BACK: u16 = 1000;
 
-    const STEP_BACK_OF_THREE: u64 = 100;
+    const STEP_BACK_OF_THREE: u16 = 100;
 
     pub const HIGH_MARK: u64 = 90;
 
@@ -26,7 +26,7 @@ impl Settings {
     pub const HIGH_PERCENT: u8 = 200;
 
     // On three dials no step back comes to 1000, so a turn of theirs is looked for from 100 on.
-    pub fn step_back(n: u8) -> u64
+    pub fn step_back(n: u8) -> u16
         ensures { λ r. ⌜ r ≡ stepBack n ⌝ }
     {
         if n == 3 {

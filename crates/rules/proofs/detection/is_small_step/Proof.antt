@@ -1,7 +1,7 @@
 -- The limit and the advance that the test sees are the definition's.
 use native.Mathlib.Omega.{arith}
 use Rattle.rules.specs.Detection.{isSmallStep}
-use Rattle.rules.proofs.Laws.{advance-word, limit-fits, back-fits, back-reads}
+use Rattle.rules.proofs.Laws.{advance-word, negated-fits, negated-reads}
 use borrow.Author.Needs.{needs}
 use Rattle.rules.proofs.detection.is_small_step.Statement.{statement}
 use Rattle.rules.proofs.detection.is_small_step.Tie as tie
@@ -10,10 +10,10 @@ step-back-requires : tie.Need-step-back-requires
 step-back-requires c κs = search needs
 
 cast-result : tie.Need-cast-result
-cast-result c = limit-fits _ _ (c .step-back .ensures)
+cast-result c = search needs
 
 sub-result : tie.Need-sub-result
-sub-result c = back-fits _ _ (c .step-back .ensures)
+sub-result c = negated-fits (c .step-back .result) (omega arith)
 
 advance-requires : tie.Need-advance-requires
 advance-requires c κs = search needs
@@ -22,7 +22,8 @@ returns : tie.Need-returns
 unfolding isSmallStep
 returns c =
     rw (
-      back-reads _ _ (c .before .step-back .ensures),
+      negated-reads (c .before .step-back .result) (omega arith),
+      c .before .step-back .ensures,
       advance-word _ _ _ _ (c .advance .ensures) (omega arith) (omega arith) (omega arith) .reads,
     )
 
