@@ -27,9 +27,9 @@
 extern "C" {
 #endif
 
-#define NECKTUREEN_VERSION "0.5.0"
+#define NECKTUREEN_VERSION "0.6.0"
 #define NECKTUREEN_VERSION_MAJOR 0
-#define NECKTUREEN_VERSION_MINOR 5
+#define NECKTUREEN_VERSION_MINOR 6
 #define NECKTUREEN_VERSION_PATCH 0
 
 #define NECKTUREEN_REGISTER_BYTES 32768
@@ -135,7 +135,7 @@ enum necktureen_indicator {
     NECKTUREEN_TRUE = 2
 };
 
-/* Enrols a meter of 4 to 9 dials and a capacity in cubic metres a year. 0, 2, 3, 24 or 25. */
+/* Enrols a meter of 3 to 9 dials and a capacity in cubic metres a year. 0, 2, 3, 24 or 25. */
 uint8_t necktureen_enrol(uint8_t *reg, size_t length, uint16_t place, uint8_t dials, uint32_t capacity,
                          uint8_t *flag, int64_t *advance);
 

@@ -31,7 +31,7 @@ pub enum Call {
     Enrol {
         /// Where.
         place: u16,
-        /// How many dials the meter has, 4 to 9.
+        /// How many dials the meter has, 3 to 9.
         dials: u8,
         /// Its capacity in m³ a year, at least 1.
         capacity: u32,
@@ -66,7 +66,7 @@ pub enum Call {
     EnrolPseudo {
         /// Where.
         place: u16,
-        /// How many dials the meter would have, 4 to 9: its values are below 10 to this power.
+        /// How many dials the meter would have, 3 to 9: its values are below 10 to this power.
         dials: u8,
         /// Its capacity in m³ a year, at least 1.
         capacity: u32,

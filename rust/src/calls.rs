@@ -6,7 +6,7 @@
 use crate::boundary;
 use crate::{Answer, Number, Report, Submission, AREA_BYTES};
 
-/// Enrols a meter of 4 to 9 dials and a capacity in m³ a year at a place.
+/// Enrols a meter of 3 to 9 dials and a capacity in m³ a year at a place.
 pub fn enrol(register: &mut [u8], place: u16, dials: u8, capacity: u32) -> Answer {
     let (at, length) = (register.as_mut_ptr(), register.len());
     let (mut flag, mut advance) = (0, 0);

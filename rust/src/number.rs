@@ -69,7 +69,7 @@ numbers! {
     NotStanding = 22, "not standing", "nothing stands with that day and value";
     NotLast = 23, "not last", "it stands, but not last";
     Enrolled = 24, "enrolled", "the area is not all zero";
-    Plate = 25, "plate", "dials not 4 to 9, or capacity 0";
+    Plate = 25, "plate", "dials not 3 to 9, or capacity 0";
     Sheet = 26, "sheet", "unknown kind, cut body, or over 60,000 bytes";
     NoFold = 27, "no fold", "fewer than four reads stand besides the folded ones, or an F stands";
     OldestKept = 28, "oldest kept", "it is the oldest read that a fold kept";

@@ -177,12 +177,16 @@ fn of_the_fields(of: Profile) -> Vec<Pair> {
 /// The meter that a carry follows.
 fn of_the_plate(of: Profile) -> Vec<Pair> {
     let with = |plate: [u8; 6]| area_of(&[&plate[..], &carry(5, 9, 0)].concat(), &[of.oldest(100, 10)]);
-    let largest = |first| area_of(&[&of.meter(9, 1)[..], &carry(first, 9, 9)].concat(), &[of.oldest(100, 10)]);
+    let showing =
+        |dials, first, kept| area_of(&[&of.meter(dials, 1)[..], &carry(first, 9, 9)].concat(), &[of.oldest(100, kept)]);
     vec![
-        ("three dials", with(of.meter(3, 1)), with(of.meter(4, 1))),
+        ("two dials", with(of.meter(2, 1)), with(of.meter(3, 1))),
         ("ten dials", with(of.meter(10, 1)), with(of.meter(9, 1))),
         ("capacity 0", with(of.meter(4, 0)), with(of.meter(4, u32::MAX))),
-        ("first value of 10^9", largest(1_000_000_000), largest(999_999_999)),
+        ("first value of 10^3", showing(3, 1_000, 10), showing(3, 999, 10)),
+        ("first value of 10^9", showing(9, 1_000_000_000, 10), showing(9, 999_999_999, 10)),
+        ("kept value of 10^3", showing(3, 10, 1_000), showing(3, 10, 999)),
+        ("kept value of 10^9", showing(9, 10, 1_000_000_000), showing(9, 10, 999_999_999)),
     ]
 }
 

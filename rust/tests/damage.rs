@@ -24,7 +24,7 @@ fn damaged(of: Profile) -> Vec<(&'static str, Vec<u8>)> {
         ("kind 2 first", area_of(&[2, 4, 1, 0, 0, 0], &[])),
         ("kind 6 first", area_of(&[6, 4, 1, 0, 0, 0], &[])),
         ("kind 8 first", area_of(&[8, 4, 1, 0, 0, 0], &[])),
-        ("three dials", area_of(&of.meter(3, 1), &[])),
+        ("two dials", area_of(&of.meter(2, 1), &[])),
         ("ten dials", area_of(&of.meter(10, 1), &[])),
         ("capacity 0", area_of(&of.meter(4, 0), &[])),
         ("kind 1 not first", area(&[first(), of.later(1, 200, 20)])),
@@ -102,6 +102,20 @@ fn the_clauses_are_those_of_any_meter() {
         if bytes[0] == PSEUDO.kind {
             bytes[0] = ORDINARY.kind;
             is_damaged(&bytes, clause);
+        }
+    }
+}
+
+/// For every number of dials the largest value that they show is sound, and the next is damage.
+#[test]
+fn a_value_is_below_the_power_of_the_dials() {
+    let powers = [1_000, 10_000, 100_000, 1_000_000, 10_000_000, 100_000_000, 1_000_000_000];
+    for (of, kind) in PROFILES.into_iter().flat_map(|of| [STANDING, WITHDRAWN, HELD].map(|kind| (of, kind))) {
+        for (dials, power) in (3..=9).zip(powers) {
+            let with = |value| area_of(&of.meter(dials, 5000), &[first(), of.later(kind, 200, value)]);
+            is_damaged(&with(power), &format!("{power} of kind {kind} on {dials} dials"));
+            let largest = report(&with_area(9, &with(power - 1)), 9);
+            assert_eq!(largest.number, Number::Accepted, "{dials} dials, kind {kind}, {of:?}");
         }
     }
 }

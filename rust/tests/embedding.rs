@@ -205,7 +205,7 @@ fn a_pseudo_meter_is_enrolled_where_c_says() {
         printf(\"%u %s, %u %u %u, %d %d %d, \", number, necktureen_word(number), f[0], f[1], f[2], (int)a[0], \
         (int)a[1], (int)a[2]);\n    \
         printf(\"%u %u\\n\", reg[512 * 7], (unsigned)necktureen_journal(reg, sizeof reg, 7));\n}\n\
-        int main(void) {\n    static const uint8_t dials[] = {3, 4, 4};\n    \
+        int main(void) {\n    static const uint8_t dials[] = {2, 3, 3};\n    \
         static const uint8_t letters[] = {NECKTUREEN_CYCLIC, NECKTUREEN_INITIAL};\n    \
         for (int i = 0; i < 3; i++) {\n        uint8_t f[] = {9, 9, 9};\n        int64_t a[] = {9, 9, 9};\n        \
         say(necktureen_enrol_pseudo(reg, sizeof reg, 7, dials[i], 5000, &f[1], &a[1]), f, a);\n    }\n    \

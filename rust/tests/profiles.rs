@@ -136,7 +136,7 @@ const ENROLMENTS: [(Profile, Enrolment); 2] = [(ORDINARY, enrol), (PSEUDO, enrol
 fn both_enrolments_take_the_same_plates() {
     for dials in 0..=255 {
         for capacity in [0, 1, 2, 255, 256, 5000, 65_536, u32::MAX] {
-            let fits = (4..=9).contains(&dials) && capacity > 0;
+            let fits = (3..=9).contains(&dials) && capacity > 0;
             for (of, enrol) in ENROLMENTS {
                 let mut register = zeros();
                 let answer = guarded(&mut register, |r| enrol(r, PLACE, dials, capacity));
@@ -160,14 +160,14 @@ fn both_enrolments_are_refused_alike() {
         |place, dials| Call::Enrol { place, dials, capacity: 5000 },
         |place, dials| Call::EnrolPseudo { place, dials, capacity: 5000 },
     ] {
-        for dials in [3, 4] {
+        for dials in [2, 3] {
             refuses(&zeros()[1..], make(64, dials), Number::Misfit, "a misfit");
             refuses(&zeros(), make(64, dials), Number::NoMeter, "past the last area");
             for area in &enrolled {
                 refuses(&with_area(PLACE, area), make(PLACE, dials), Number::Enrolled, "enrolled before");
             }
         }
-        refuses(&zeros(), make(PLACE, 3), Number::Plate, "three dials");
+        refuses(&zeros(), make(PLACE, 2), Number::Plate, "two dials");
     }
 }
 

@@ -102,8 +102,8 @@ fn a_pseudo_meter_is_enrolled_by_kind_6() {
     let calls = [opening, initial, cyclic, last, FOLD, REPORT, withdrawal, last, ENROL, ENROL_PSEUDO, REPORT];
     let lines = "29 0 0\n0 0 0\n29 0 0\n0 0 200\n27 0 0\n0 2 0 200\n0 0 -200\n8 0 0\n24 0 0\n24 0 0\n0 1 0 0\n";
     let bad = [
-        Call::EnrolPseudo { place: 64, dials: 3, capacity: 0 },
-        Call::EnrolPseudo { place: 63, dials: 3, capacity: 1 },
+        Call::EnrolPseudo { place: 64, dials: 2, capacity: 0 },
+        Call::EnrolPseudo { place: 63, dials: 2, capacity: 1 },
     ];
     let sheet = [&[6, 0, 4, 0x88, 0x13, 0, 0][..], &sheet(&calls), &sheet(&bad)].concat();
     assert_eq!(play(&sheet), format!("0 0 0\n{lines}3 0 0\n25 0 0\n"));

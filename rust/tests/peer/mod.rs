@@ -1,5 +1,5 @@
-//! Document 01, with the leap years, the folds, the same-day search and the pseudo meters of document 02, written a second
-//! time, by hand and from the papers alone, for the tests and the benchmark.
+//! Document 01, with the leap years, the folds, the same-day search, the pseudo meters and the three-dial meters of document
+//! 02, written a second time, by hand and from the papers alone, for the tests and the benchmark.
 //!
 //! It shares with the library the types of a submission, of a date and of the answers and nothing else: register,
 //! rules, order of checks, calendar and day sheet are its own. Where the paper leaves room, a comment says how it is

@@ -63,7 +63,7 @@ pub fn all_zero(bytes: &[u8]) -> bool {
 }
 
 pub fn plate_fits(dials: u8, capacity: u32) -> bool {
-    (4..=9).contains(&dials) && capacity >= 1
+    (3..=9).contains(&dials) && capacity >= 1
 }
 
 fn read_carry(bytes: &[u8]) -> Carry {

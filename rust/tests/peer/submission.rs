@@ -9,12 +9,20 @@ use necktureen::{Number, Submission};
 const UNPOPULATED: u32 = 4_294_967_295;
 
 // The detection settings.
-const STEP_BACK: i64 = 1000;
 const HIGH_MARK: i64 = 90;
 const LOW_MARK: i64 = 10;
 const LOW_PERCENT: i64 = 20;
 const HIGH_PERCENT: i64 = 200;
 const FRACTION: i64 = 10;
+
+/// The first step back that is not small: "the limit is −100 for three dials and −1000 otherwise".
+fn step_back(dials: u8) -> i64 {
+    if dials == 3 {
+        100
+    } else {
+        1000
+    }
+}
 
 enum Detection {
     NotARollover,
@@ -143,7 +151,7 @@ fn detect(journal: &Journal, read: &Submission) -> Detection {
     let Some(last) = newest_first.next() else {
         return Detection::NotARollover;
     };
-    if i64::from(read.value) - i64::from(last.value) > -STEP_BACK {
+    if i64::from(read.value) - i64::from(last.value) > -step_back(journal.dials) {
         return Detection::NotARollover;
     }
     // Tests 2, 4 and 5 speak of the two reads before; a test whose reads do not exist fails.
