@@ -101,7 +101,7 @@ fn run_a(seed: u64) -> (Vec<u8>, Vec<(Call, Reply)>) {
 
 #[test]
 fn two_runs_agree_at_every_meter() {
-    let (mut folded, mut folded_again, mut pseudo) = (0, 0, 0);
+    let (mut folded, mut folded_again, mut pseudo, mut three_dials) = (0, 0, 0, 0);
     for seed in 0..60 {
         let (a, exchanges) = run_a(seed);
         for meter in [0, 1, 2, 31, 63] {
@@ -123,8 +123,10 @@ fn two_runs_agree_at_every_meter() {
             folded += usize::from(in_a.folds > 0);
             folded_again += usize::from(in_a.folds > 1);
             pseudo += usize::from(in_a.is_pseudo && !in_a.standing.is_empty() && !in_a.withdrawn.is_empty());
+            three_dials += usize::from(in_a.dials == 3 && in_a.flags > 0);
         }
     }
     assert!(folded >= 50 && folded_again >= 25, "{folded} meters were folded, {folded_again} of them again");
     assert!(pseudo >= 50, "{pseudo} pseudo meters have a standing read and a withdrawn one");
+    assert!(three_dials >= 20, "{three_dials} meters of three dials turned");
 }

@@ -113,17 +113,19 @@ impl Style {
         let value = if random.once_in(20) { random.between(0, turn - 1) } else { value % turn };
         let mut read = Read { day: day as u16, value: value as u32, ..any_read(random, self.head) };
         if self.one_bucket {
-            let near = value.min(turn - 1280) + 256 * random.between(0, 3);
-            read.value = in_first_bucket(read.day, near as u32);
+            let near = (value + 256 * random.between(0, 3)) % turn;
+            read.value = in_first_bucket(read.day, near as u32, turn);
         }
         (read, flag)
     }
 
-    /// A value in the place of another, mostly of the same bucket. Now and then it is the same, which is damage if both
-    /// have one day.
+    /// A value in the place of another, mostly of the same bucket: above it, or where the dials do not go so far, below.
+    /// Now and then it is the same, which is damage if both have one day.
     fn misread(&self, random: &mut Random, value: u32) -> u32 {
         let away = if random.once_in(60) { 0 } else { random.pick(&[1, 256, 256, 512, 768]) };
-        ((i64::from(value) + away) % self.head.turn) as u32
+        let (value, turn) = (i64::from(value), self.head.turn);
+        let misread = if value + away < turn { value + away } else { (value - 256).rem_euclid(turn) };
+        misread as u32
     }
 
     /// Whether one more read may stand. On a pseudo meter a final one alone follows the first, and none where one is to be

@@ -12,6 +12,8 @@ pub struct Meter {
     pub is_pseudo: bool,
     /// 10^n; of a damaged plate any power will do.
     pub turn: i64,
+    /// The first step back that is not small.
+    pub step_back: i64,
     pub capacity: i64,
     pub is_carried: bool,
     pub standing: Vec<(Read, u8)>,
@@ -31,7 +33,8 @@ pub fn head_bytes(area: &[u8]) -> usize {
 pub fn look_at(area: &[u8]) -> Meter {
     let mut meter = Meter {
         is_pseudo: area[0] == 7,
-        turn: 10_i64.pow(u32::from(area[1]).clamp(4, 9)),
+        turn: 10_i64.pow(u32::from(area[1]).clamp(3, 9)),
+        step_back: if area[1] == 3 { 100 } else { 1000 },
         capacity: i64::from(u32::from_le_bytes([area[2], area[3], area[4], area[5]])),
         is_carried: head_bytes(area) > 6,
         standing: Vec::new(),

@@ -73,7 +73,7 @@ fn call_on(random: &mut Random, idle: &mut Idle, place: u16, meter: &Meter) -> C
 fn enrolment(random: &mut Random, place: u16) -> Call {
     let (mut dials, mut capacity) = plate(random);
     match random.index(12) {
-        0 => dials = random.pick(&[0, 3, 10, 255]),
+        0 => dials = random.pick(&[0, 2, 10, 255]),
         1 => capacity = 0,
         _ => {}
     }
@@ -84,9 +84,10 @@ fn enrolment(random: &mut Random, place: u16) -> Call {
     }
 }
 
-/// Dials and a capacity: mostly one that leaves room for a few turns of the dials a year, also small and large ones.
+/// Dials and a capacity: mostly one that leaves room for a few turns of the dials a year, also small and large ones. One
+/// meter in four has three dials, whose step back has a limit of its own.
 fn plate(random: &mut Random) -> (u8, u32) {
-    let dials = random.between(4, 9) as u8;
+    let dials = if random.once_in(4) { 3 } else { random.between(4, 9) as u8 };
     let turn = 10_i64.pow(u32::from(dials));
     let capacity = match random.index(8) {
         0 => random.between(1, 400),

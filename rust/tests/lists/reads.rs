@@ -61,14 +61,19 @@ fn next_read(random: &mut Random, meter: &Meter) -> Read {
         None => opening_read(random, meter),
         Some(&(last, _)) => following_read(random, meter, last),
     };
-    let value = if meter.capacity % 8 == 0 { in_first_bucket(read.day, read.value) } else { read.value };
+    let value = if meter.capacity % 8 == 0 { in_first_bucket(read.day, read.value, meter.turn) } else { read.value };
     Read { value, ..read }
 }
 
-/// The least value from this one on with which a read of this day is in the first of the 256 buckets that the library keeps
-/// withdrawn reads in: day and value together are a multiple of 256.
-pub fn in_first_bucket(day: u16, value: u32) -> u32 {
-    value + (256 - (u32::from(day) + value) % 256) % 256
+/// The next value that the dials show, from this one on and from 0 again, with which a read of this day is in the first of
+/// the 256 buckets that the library keeps withdrawn reads in: day and value together are a multiple of 256.
+pub fn in_first_bucket(day: u16, value: u32, turn: i64) -> u32 {
+    let from = |value: u32| value + (256 - (u32::from(day) + value) % 256) % 256;
+    if i64::from(from(value)) < turn {
+        from(value)
+    } else {
+        from(0)
+    }
 }
 
 /// A first read, often near all nines. Days start low, so that many reads fit after it.
@@ -136,8 +141,8 @@ fn advance(random: &mut Random, meter: &Meter, last: Read, days: i64) -> i64 {
         0 => hundredth_of_usual(20) + edge,
         1 => hundredth_of_usual(200) + edge,
         2 => by_capacity + edge,
-        3 => -1000 + edge,
-        4 => random.between(-1100, 10),
+        3 => -meter.step_back + edge,
+        4 => random.between(-meter.step_back * 11 / 10, meter.step_back / 100),
         // Onto the marks of the first test, and onto all nines.
         5 => turn / 10 - i64::from(last.value) + edge,
         6 => turn * 9 / 10 - i64::from(last.value) + edge,

@@ -7,6 +7,8 @@ use necktureen::{entries, Entry, Read};
 #[derive(Default)]
 pub struct Journal {
     pub is_carried: bool,
+    /// How many of the folded reads are flagged.
+    pub flagged_in_carry: u16,
     pub standing: Vec<Read>,
     pub withdrawn: Vec<Read>,
     pub held: Option<Read>,
@@ -17,7 +19,7 @@ impl Journal {
         let mut journal = Journal::default();
         for entry in entries(area) {
             match entry {
-                Entry::Carry { .. } => journal.is_carried = true,
+                Entry::Carry { flagged, .. } => (journal.is_carried, journal.flagged_in_carry) = (true, flagged),
                 Entry::Standing(read) => journal.standing.push(read),
                 Entry::Withdrawn(read) => journal.withdrawn.push(read),
                 Entry::Held(read) => journal.held = Some(read),

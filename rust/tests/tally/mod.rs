@@ -3,6 +3,7 @@
 mod folds;
 mod journal;
 mod profiles;
+mod standpipes;
 
 use super::peer::calendar;
 use folds::Dropped;
@@ -26,7 +27,8 @@ pub struct Tally {
     dropped: Dropped,
 }
 
-const DEEP: [&str; 25] = [
+const DEEP: [&str; 26] = [
+    "3 dials, a read accepted",
     "4 dials, a read accepted",
     "5 dials, a read accepted",
     "6 dials, a read accepted",
@@ -42,7 +44,7 @@ const DEEP: [&str; 25] = [
     "an F accepted",
     "a Y accepted",
     "a Y accepted against the capacity",
-    "a step back of 1000 or more accepted with false",
+    "a step back of the limit or more accepted with false",
     "a rollover accepted, indicator not set",
     "a rollover accepted with true",
     "a rollover withdrawn",
@@ -56,7 +58,8 @@ const DEEP: [&str; 25] = [
 
 impl Tally {
     pub fn new() -> Tally {
-        let deep = DEEP.iter().chain(folds::STATES).chain(profiles::STATES).map(|&name| (name, 0)).collect();
+        let states = [&DEEP[..], folds::STATES, profiles::STATES, standpipes::STATES];
+        let deep = states.concat().into_iter().map(|name| (name, 0)).collect();
         Tally { numbers: [0; NUMBERS], deep, query: [None; PLACES], dropped: Dropped::default() }
     }
 
@@ -84,7 +87,8 @@ impl Tally {
         for name in folds::states(call, reply, &before, &after).into_iter().chain(self.dropped.state(call, reply)) {
             self.see(name);
         }
-        for name in profiles::states(call, reply, &before, &after) {
+        let of_meters = [profiles::states, standpipes::states];
+        for name in of_meters.map(|states| states(call, reply, &before, &after)).concat() {
             self.see(name);
         }
         self.dropped.enter(call, reply, &before, &after);
@@ -107,12 +111,12 @@ impl Tally {
     }
 
     fn count_accepted(&mut self, read: Submission, answer: Answer, area: &Area) {
-        self.see(DEEP[usize::from(area[1]) - 4]);
+        self.see(accepted_on(area[1]));
         match (answer.flag, read.indicator) {
             (1, indicator::NOT_SET) => self.see("a rollover accepted, indicator not set"),
             (1, _) => self.see("a rollover accepted with true"),
-            (_, indicator::FALSE) if answer.advance <= -1000 => {
-                self.see("a step back of 1000 or more accepted with false")
+            (_, indicator::FALSE) if answer.advance <= -limit(area) => {
+                self.see("a step back of the limit or more accepted with false")
             }
             _ => {}
         }
@@ -196,6 +200,20 @@ impl Tally {
 
 fn capacity(area: &Area) -> i64 {
     i64::from(u32::from_le_bytes([area[2], area[3], area[4], area[5]]))
+}
+
+fn accepted_on(dials: u8) -> &'static str {
+    let name = format!("{dials} dials, a read accepted");
+    DEEP.iter().find(|row| **row == name).expect("a number of dials that a meter may have")
+}
+
+/// The first step back that is not small.
+fn limit(area: &Area) -> i64 {
+    if area[1] == 3 {
+        100
+    } else {
+        1000
+    }
 }
 
 /// The last standing read before a day.
