@@ -95,23 +95,29 @@ fn a_held_final_read_is_confirmed() {
 
 /// Where an F is taken one read stands at most, so there is no advance to compare with: every value is accepted, over the
 /// capacity (21) or an unclear step back (18). Days 200 and 465 are in a leap year and in a common one.
+fn is_never_queried(area: &[u8], initial: u32, limit: i64) {
+    for (day, days, of_year) in [(200, 100, 366), (465, 365, 365)] {
+        for value in 0..2 * initial {
+            let advance = i64::from(value) - i64::from(initial);
+            let expected = match advance {
+                _ if advance <= -limit => refusal(Number::Ef),
+                _ if advance * of_year < i64::from(initial) * days => taken(0, advance),
+                _ => refusal(Number::Capacity),
+            };
+            let answer = submit(&mut with_area(PLACE, area), PLACE, read(day, b'F', value));
+            assert_eq!(answer, expected, "{} dials, day {day}, value {value}", area[1]);
+        }
+    }
+}
+
+/// From the middle of the dials, with as large a capacity.
 #[test]
 fn a_final_read_is_never_queried() {
-    let after_initial = [PSEUDO.area(&[entry(STANDING, 100, 5000, b'I', 0, 0)])];
-    let after_carry = [PSEUDO.carried(carry(1, 99, 0), &[entry(STANDING, 100, 5000, b'I', 0, 0)])];
-    for area in [after_initial, after_carry].concat() {
-        for (day, days, of_year) in [(200, 100, 366), (465, 365, 365)] {
-            for value in 0..10_000 {
-                let advance = i64::from(value) - 5000;
-                let expected = match advance {
-                    ..=-1000 => refusal(Number::Ef),
-                    _ if advance * of_year < 5000 * days => taken(0, advance),
-                    _ => refusal(Number::Capacity),
-                };
-                let answer = submit(&mut with_area(PLACE, &area), PLACE, read(day, b'F', value));
-                assert_eq!(answer, expected, "day {day}, value {value}");
-            }
-        }
+    for (dials, initial, limit) in [(3, 500, 100), (4, 5000, 1000)] {
+        let head = PSEUDO.meter(dials, initial);
+        let entries = [entry(STANDING, 100, initial, b'I', 0, 0)];
+        is_never_queried(&area_of(&head, &entries), initial, limit);
+        is_never_queried(&area_of(&[&head[..], &carry(1, 99, 0)].concat(), &entries), initial, limit);
     }
 }
 

@@ -1,5 +1,5 @@
-//! A site that is read every month for sixty years, and whose journal is folded whenever it is full. After every call its
-//! report is held to what is counted here, without a look at the register.
+//! A site that is read every month for sixty years, and whose journal is folded whenever it is full: a house, and a
+//! standpipe of three dials. After every call its report is held to what is counted here, without a look at the register.
 
 mod common;
 
@@ -8,14 +8,34 @@ use necktureen::{
     day_of, enrol, fold, journal, report, submit, withdraw, Answer, Date, Number, Report, Submission, AREA_BYTES,
 };
 
-const TURN: i64 = 10_000;
-/// What the dials show at the first read.
-const START: i64 = 9_000;
 const MONTHS: u16 = 720;
 
-/// How far the dials go in a month.
-fn advance_of(month: u16) -> i64 {
-    120 + i64::from(month) * 37 % 61
+/// A meter, and what passes through it.
+#[derive(Clone, Copy)]
+struct Meter {
+    dials: u8,
+    capacity: u32,
+    /// 10^n.
+    turn: i64,
+    /// What the dials show at the first read.
+    start: i64,
+    /// How far they go in a month, at least and at most.
+    least: i64,
+    most: i64,
+}
+
+const HOUSE: Meter = Meter { dials: 4, capacity: 5000, turn: 10_000, start: 9_000, least: 120, most: 180 };
+const STANDPIPE: Meter = Meter { dials: 3, capacity: 500, turn: 1_000, start: 900, least: 12, most: 18 };
+
+impl Meter {
+    fn advance_of(self, month: u16) -> i64 {
+        self.least + i64::from(month) * 37 % (self.most - self.least + 1)
+    }
+
+    /// What the dials show after so many m³, and how often they have turned by then.
+    fn dials_after(self, total: i64) -> (u32, i64) {
+        (((self.start + total) % self.turn) as u32, (self.start + total) / self.turn)
+    }
 }
 
 fn first_of(month: u16) -> u16 {
@@ -23,13 +43,9 @@ fn first_of(month: u16) -> u16 {
     day_of(Date { year, month, day: 1 }).expect("a day of the calendar")
 }
 
-/// What the dials show after so many m³, and how often they have turned by then.
-fn dials_after(total: i64) -> (u32, i64) {
-    (((START + total) % TURN) as u32, (START + total) / TURN)
-}
-
 /// The register, and what was counted.
 struct Site {
+    meter: Meter,
     register: Vec<u8>,
     standing: u16,
     flagged: u16,
@@ -42,10 +58,10 @@ struct Site {
 }
 
 impl Site {
-    fn new() -> Site {
+    fn new(meter: Meter) -> Site {
         let mut register = zeros();
-        assert_eq!(enrol(&mut register, 40, 4, 5000).number, Number::Accepted);
-        Site { register, standing: 0, flagged: 0, total: 0, folds: 0, flags_withdrawn: 0, known: 0, dropped: 0 }
+        assert_eq!(enrol(&mut register, 40, meter.dials, meter.capacity).number, Number::Accepted);
+        Site { meter, register, standing: 0, flagged: 0, total: 0, folds: 0, flags_withdrawn: 0, known: 0, dropped: 0 }
     }
 
     fn is_reported(&self) {
@@ -57,7 +73,7 @@ impl Site {
     /// The read of a day, on which the total is this.
     fn read(&self, day: u16, total: i64) -> Submission {
         let letter = if self.standing == 0 { b'I' } else { b'C' };
-        read(day, letter, dials_after(total).0)
+        read(day, letter, self.meter.dials_after(total).0)
     }
 
     /// Sends a read. If the journal is full it is folded, and the read sent again.
@@ -69,7 +85,7 @@ impl Site {
             self.fold();
             answer = submit(&mut self.register, 40, read);
         }
-        let flag = dials_after(total).1 - dials_after(self.total).1;
+        let flag = self.meter.dials_after(total).1 - self.meter.dials_after(self.total).1;
         let expected = Answer { number: Number::Accepted, flag: flag as u8, advance: total - self.total };
         assert_eq!(answer, expected, "day {day}");
         self.standing += 1;
@@ -92,7 +108,7 @@ impl Site {
     fn misread(&mut self, day: u16, total: i64) {
         let (before, flagged) = (self.total, self.flagged);
         self.take(day, total);
-        let answer = withdraw(&mut self.register, 40, day, dials_after(total).0);
+        let answer = withdraw(&mut self.register, 40, day, self.meter.dials_after(total).0);
         let flag = (self.flagged - flagged) as u8;
         assert_eq!(answer, Answer { number: Number::Accepted, flag, advance: before - total });
         (self.standing, self.flagged, self.total) = (self.standing - 1, flagged, before);
@@ -103,7 +119,8 @@ impl Site {
     /// A read that was withdrawn is refused whenever it comes again, and changes no byte.
     fn comes_again(&mut self, day: u16, total: i64) {
         let before = self.register.clone();
-        let number = submit(&mut self.register, 40, read(day, b'C', dials_after(total).0)).number;
+        let again = read(day, b'C', self.meter.dials_after(total).0);
+        let number = submit(&mut self.register, 40, again).number;
         match number {
             Number::Withdrawn => self.known += 1,
             Number::At | Number::Eh | Number::Bf | Number::BackDated => self.dropped += 1,
@@ -114,15 +131,14 @@ impl Site {
     }
 }
 
-#[test]
-fn a_report_is_the_running_total_for_sixty_years() {
-    let mut site = Site::new();
+fn is_read_for_sixty_years(meter: Meter) {
+    let mut site = Site::new(meter);
     site.is_reported();
     let (mut total, mut misreads) = (0, Vec::new());
     site.take(first_of(0), total);
     for month in 1..=MONTHS {
         let day = first_of(month);
-        total += advance_of(month);
+        total += meter.advance_of(month);
         if month % 5 == 0 {
             site.misread(day, total + 3);
             misreads.push((day, total + 3));
@@ -133,9 +149,19 @@ fn a_report_is_the_running_total_for_sixty_years() {
         }
     }
     assert_eq!(site.standing, MONTHS + 1);
-    assert_eq!(i64::from(site.flagged), (START + total) / TURN);
+    assert_eq!(i64::from(site.flagged), (meter.start + total) / meter.turn);
     assert!(site.flagged >= 10 && site.folds >= 15, "{} turns, {} folds", site.flagged, site.folds);
     assert!(site.flags_withdrawn >= 1, "no misread was taken as a rollover");
     assert!(site.known >= 100 && site.dropped >= 100, "{} known, {} dropped", site.known, site.dropped);
     assert!(site.register[..AREA_BYTES * 40].iter().all(|&byte| byte == 0), "another area was written");
+}
+
+#[test]
+fn a_report_is_the_running_total_for_sixty_years() {
+    is_read_for_sixty_years(HOUSE);
+}
+
+#[test]
+fn a_report_is_the_running_total_of_three_dials() {
+    is_read_for_sixty_years(STANDPIPE);
 }
