@@ -1,7 +1,7 @@
 //! The cases that are measured, in the order of the tables.
 
 use crate::journals::{carried_register, damage, day, next_read_carried, pseudo_register, register, Head, Withdrawn};
-use crate::journals::{ADVANCE, CAPACITY, DIALS, PLACES};
+use crate::journals::{read_after_turn, register_before_turn, ADVANCE, BEFORE_TURN, CAPACITY, DIALS, PLACES};
 use crate::rows::{Made, Row};
 use necktureen::{Number, Submission, REGISTER_BYTES};
 
@@ -21,6 +21,7 @@ pub fn rows() -> Vec<Row> {
     rows.extend([3, 49].map(|entries| carried(Made::Report, entries)));
     rows.extend([3, 48].map(|entries| carried(Made::Submit(next_read_carried(entries)), entries)));
     rows.extend(of_pseudo_meters());
+    rows.extend(of_turns());
     rows.extend([0, 50].map(|entries| row(Made::Journal, "handed back", entries, Number::Accepted)));
     rows.extend([(Made::DateOf, "the date of a day"), (Made::DayOf, "the day of a date")].map(calendar));
     rows
@@ -161,6 +162,20 @@ fn of_pseudo_meters() -> Vec<Row> {
 fn pseudo(made: Made, case: &'static str, entries: usize, expected: Number) -> Row {
     let register = pseudo_register(entries, Withdrawn::None);
     Row { head: Head::PseudoMeter, register, ..row(made, case, entries, expected) }
+}
+
+/// On journals whose dials are about to turn: a read after the turn, and one that may be after it.
+fn of_turns() -> [Row; 3] {
+    let unclear = Submission { value: 200, ..read_after_turn() };
+    [
+        turn(4, read_after_turn(), "accepted, four dials turn", Number::Accepted),
+        turn(3, read_after_turn(), "accepted, three dials turn", Number::Accepted),
+        turn(3, unclear, "refused, unclear whether three dials turned (18)", Number::Ef),
+    ]
+}
+
+fn turn(dials: u8, read: Submission, case: &'static str, expected: Number) -> Row {
+    Row { register: register_before_turn(dials), ..row(Made::Submit(read), case, BEFORE_TURN, expected) }
 }
 
 /// Without a register.

@@ -18,6 +18,11 @@ const LETTERS: [u8; 8] = *b"CURTSXYE";
 const AHEAD: usize = 24;
 /// The library keeps withdrawn reads in so many buckets. A read's bucket is the remainder of its day and value together.
 const BUCKETS: u32 = 256;
+/// How many reads stand where the dials are about to turn, how far these go from one read to the next, and how far below
+/// the turn the last of them is.
+pub const BEFORE_TURN: usize = 3;
+const ADVANCE_TO_TURN: u32 = 40;
+const BELOW_TURN: u32 = 10;
 /// How many reads were folded where a journal has a carry: as many as a fold of 50 folds.
 const FOLDED: usize = 47;
 const METER_BYTES: usize = 6;
@@ -151,6 +156,25 @@ pub fn pseudo_register(entries: usize, withdrawn: Withdrawn) -> Vec<u8> {
         area[METER_BYTES..].chunks_exact_mut(ENTRY_BYTES).take(entries).skip(1).for_each(|entry| entry[7] = b'F');
     }
     register
+}
+
+/// A register of meters with so many dials, which are about to turn.
+pub fn register_before_turn(dials: u8) -> Vec<u8> {
+    let mut register = register(BEFORE_TURN, Withdrawn::None);
+    let last = 10_u32.pow(u32::from(dials)) - BELOW_TURN;
+    for area in register.chunks_exact_mut(AREA_BYTES) {
+        area[1] = dials;
+        let reads = area[METER_BYTES..].chunks_exact_mut(ENTRY_BYTES).take(BEFORE_TURN);
+        for (value, entry) in (0..).map(|k| last - ADVANCE_TO_TURN * k).zip(reads.rev()) {
+            entry[3..7].copy_from_slice(&value.to_le_bytes());
+        }
+    }
+    register
+}
+
+/// The read after the turn, as far from the last one as that is from the one before.
+pub fn read_after_turn() -> Submission {
+    Submission { value: ADVANCE_TO_TURN - BELOW_TURN, ..Withdrawn::None.next_read(BEFORE_TURN, ADVANCE) }
 }
 
 /// The read that follows so many standing ones after a carry.
