@@ -4,7 +4,7 @@
 mod common;
 
 use common::*;
-use necktureen::{enrol_pseudo, fold, indicator, journal, report, submit, withdraw, Call, Number, Report, Submission};
+use necktureen::{enrol_pseudo, fold, indicator, journal, report, submit, withdraw, Call, Number, Submission};
 
 const PLACE: u16 = 9;
 
@@ -44,10 +44,6 @@ fn enrolled() -> Vec<u8> {
     let mut register = zeros();
     assert_eq!(enrol_pseudo(&mut register, PLACE, 4, 5000), taken(0, 0));
     register
-}
-
-fn reported(standing: u16, flagged: u16, total: i64) -> Report {
-    Report { number: Number::Accepted, standing, flagged, total }
 }
 
 #[test]
@@ -95,13 +91,13 @@ fn a_held_final_read_is_confirmed() {
 
 /// Where an F is taken one read stands at most, so there is no advance to compare with: every value is accepted, over the
 /// capacity (21) or an unclear step back (18). Days 200 and 465 are in a leap year and in a common one.
-fn is_never_queried(area: &[u8], initial: u32, limit: i64) {
+fn is_never_queried(area: &[u8], initial: u32, capacity: u32, limit: i64) {
     for (day, days, of_year) in [(200, 100, 366), (465, 365, 365)] {
         for value in 0..2 * initial {
             let advance = i64::from(value) - i64::from(initial);
             let expected = match advance {
                 _ if advance <= -limit => refusal(Number::Ef),
-                _ if advance * of_year < i64::from(initial) * days => taken(0, advance),
+                _ if advance * of_year < i64::from(capacity) * days => taken(0, advance),
                 _ => refusal(Number::Capacity),
             };
             let answer = submit(&mut with_area(PLACE, area), PLACE, read(day, b'F', value));
@@ -113,11 +109,11 @@ fn is_never_queried(area: &[u8], initial: u32, limit: i64) {
 /// From the middle of the dials, with as large a capacity.
 #[test]
 fn a_final_read_is_never_queried() {
-    for (dials, initial, limit) in [(3, 500, 100), (4, 5000, 1000)] {
-        let head = PSEUDO.meter(dials, initial);
+    for (dials, initial, capacity, limit) in [(3, 500, 500, 100), (4, 5000, 5000, 1000)] {
+        let head = PSEUDO.meter(dials, capacity);
         let entries = [entry(STANDING, 100, initial, b'I', 0, 0)];
-        is_never_queried(&area_of(&head, &entries), initial, limit);
-        is_never_queried(&area_of(&[&head[..], &carry(1, 99, 0)].concat(), &entries), initial, limit);
+        is_never_queried(&area_of(&head, &entries), initial, capacity, limit);
+        is_never_queried(&area_of(&[&head[..], &carry(1, 99, 0)].concat(), &entries), initial, capacity, limit);
     }
 }
 

@@ -4,9 +4,7 @@
 mod common;
 
 use common::*;
-use necktureen::{
-    enrol, enrol_pseudo, fold, indicator, report, submit, withdraw, Answer, Call, Number, Report, Submission,
-};
+use necktureen::{enrol, enrol_pseudo, fold, indicator, report, submit, withdraw, Answer, Call, Number, Submission};
 use std::ops::RangeInclusive;
 
 const PLACE: u16 = 9;
@@ -173,10 +171,6 @@ fn the_five_tests_have_their_edges_on_three_dials() {
 }
 
 // ---- A standpipe's life ----
-
-fn reported(standing: u16, flagged: u16, total: i64) -> Report {
-    Report { number: Number::Accepted, standing, flagged, total }
-}
 
 /// Every quarter the dials go 80 on, from 740, so that they turn at quarters 4, 16 and 29.
 fn quarterly(quarter: u16) -> Submission {

@@ -31,7 +31,7 @@ turnedAdvance n s r0 = advanceOf n (s .value) 1 (r0 .value)
 abbrev pub plainAdvance : ℕ → Entry → Entry → ℤ
 plainAdvance n newer older = advanceOf n (newer .value) 0 (older .value)
 
--- "Not a Rollover: no R0, or R1 − R0 >" −limit
+-- "Not a Rollover: no R0, or R1 − R0 > −1000.", with the limit of the dials in the place of 1000
 unfoldable pub isSmallStep : ℕ → Submission → Entry → Bool
 isSmallStep n s r0 = ltZ (negℤ (pos (stepBack n))) (advanceOf n (s .value) 0 (r0 .value))
 

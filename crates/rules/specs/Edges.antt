@@ -1,5 +1,5 @@
--- 01, Pairs at an edge: those marked P, as one table under one claim. "Four dials; spacing 180 days where it counts." 02, 5: the pairs of
--- detection for three dials too.
+-- 01, Pairs at an edge: those marked P, as one table under one claim. "Four dials; spacing 180 days where it counts." After
+-- them, for 02, 5, rows of detection on three dials.
 use mathlib.Core.Path.{_≡_}
 use mathlib.Core.Bool.{Bool, true, false, _&&_, cond}
 use mathlib.Core.List.{List, [], _∷_}
@@ -112,15 +112,17 @@ edges =
     ∷ edge 4 (1200 ∷ 1000 ∷ []) 1601 NotRollover high
     ∷ inTenDays from2001 365 9 accepted
     ∷ inTenDays from2001 365 10 overCapacity
-    -- 02, 5: "The limit is −100 for three dials", and the marks of a turn are 900 and 100
+    -- 02, 5: "The limit is −100 for three dials"
     ∷ edge 3 (500 ∷ []) 401 NotRollover accepted
     ∷ edge 3 (500 ∷ []) 400 Indeterminate readEF
+    -- (2) on three dials: with A of 20 an A0 of 39 is below the most percentage, 40 is not
     ∷ edge 3 (980 ∷ 960 ∷ 940 ∷ []) 19 Rollover accepted
     ∷ edge 3 (980 ∷ 960 ∷ 940 ∷ []) 20 Indeterminate readEF
+    -- without R-2
     ∷ edge 3 (980 ∷ 960 ∷ []) 19 Indeterminate readEF
     ∷ []
 
--- ---- more edges of the same rules, where no pair of the paper has one
+-- ---- more edges of the same rules, which none of these shows
 unfoldable pub moreEdges : List Edge
 moreEdges =
     -- (2) "20 × A × (D1 − D0) < 100 × A0 × (D0 − D-1)": with A of 500 an A0 of 101 is above the least percentage, 100 is not
@@ -152,7 +154,7 @@ moreEdges =
     -- it is the day of the read that counts, not that of the one before it: reads of 31 December 2000 and of 1 January 2001
     ∷ inTenDays toDecember31 366 10 overCapacity
     ∷ inTenDays toJanuary1 366 10 accepted
-    -- 02, 5: "and −1000 otherwise"; that a turn is seen by the dials' own range on the most of them too
+    -- 02, 5: "and −1000 otherwise"; and a turn of nine dials, the most, where 10^n is largest
     ∷ edge 5 (5000 ∷ []) 4001 NotRollover accepted
     ∷ edge 5 (5000 ∷ []) 4000 Indeterminate readEF
     ∷ edge 6 (5000 ∷ []) 4001 NotRollover accepted

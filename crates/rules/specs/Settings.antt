@@ -1,4 +1,5 @@
--- 01, Detection: "The detection settings (1000, 90, 10, 20, 200, 10) are constants that belong to one named set."
+-- 01, Detection: "The detection settings (1000, 90, 10, 20, 200, 10) are constants that belong to one named set." The first is a function of the
+-- dials (02, 5).
 use mathlib.Core.Bool.{cond}
 use Prim.Native.Nat.{ℕ}
 use lib.Dec.{eqb}

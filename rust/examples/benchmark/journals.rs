@@ -1,5 +1,5 @@
 //! The registers that calls are made on: 64 equal journals, with reads of every type but F, of which only one may stand.
-//! Those of pseudo meters have an I and an F.
+//! Those of pseudo meters have an I and an F, and those whose dials are about to turn three reads just below the turn.
 
 use necktureen::{Submission, AREA_BYTES};
 

@@ -148,6 +148,11 @@ pub fn refusal(number: Number) -> Answer {
     Answer { number, flag: 0, advance: 0 }
 }
 
+/// A report that is answered.
+pub fn reported(standing: u16, flagged: u16, total: i64) -> Report {
+    Report { number: Number::Accepted, standing, flagged, total }
+}
+
 pub fn refused_report(number: Number) -> Report {
     Report { number, standing: 0, flagged: 0, total: 0 }
 }

@@ -119,8 +119,8 @@ impl Style {
         (read, flag)
     }
 
-    /// A value in the place of another, mostly of the same bucket: above it, or where the dials do not go so far, below.
-    /// Now and then it is the same, which is damage if both have one day.
+    /// A value in the place of another, mostly of the same bucket: above it, or mostly below where the dials do not go so
+    /// far. Now and then it is the same, which is damage if both have one day.
     fn misread(&self, random: &mut Random, value: u32) -> u32 {
         let away = if random.once_in(60) { 0 } else { random.pick(&[1, 256, 256, 512, 768]) };
         let (value, turn) = (i64::from(value), self.head.turn);

@@ -21,6 +21,15 @@ pub struct Meter {
     pub held: Option<Read>,
 }
 
+/// The first step back that is not small on so many dials.
+pub fn step_back(dials: u8) -> i64 {
+    if dials == 3 {
+        100
+    } else {
+        1000
+    }
+}
+
 /// How long the head of an area is: the meter's entry, and a carry if one follows.
 pub fn head_bytes(area: &[u8]) -> usize {
     if area[6] == 5 {
@@ -34,7 +43,7 @@ pub fn look_at(area: &[u8]) -> Meter {
     let mut meter = Meter {
         is_pseudo: area[0] == 7,
         turn: 10_i64.pow(u32::from(area[1]).clamp(3, 9)),
-        step_back: if area[1] == 3 { 100 } else { 1000 },
+        step_back: step_back(area[1]),
         capacity: i64::from(u32::from_le_bytes([area[2], area[3], area[4], area[5]])),
         is_carried: head_bytes(area) > 6,
         standing: Vec::new(),

@@ -17,6 +17,7 @@ mod settings;
 mod shorten;
 
 pub use idle::Idle;
+pub use meter::step_back;
 pub use random::Random;
 pub use registers::{any_register, misfit_register};
 pub use settings::{say, seed, setting};

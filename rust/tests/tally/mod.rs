@@ -5,6 +5,7 @@ mod journal;
 mod profiles;
 mod standpipes;
 
+use super::lists::step_back;
 use super::peer::calendar;
 use folds::Dropped;
 use necktureen::{
@@ -15,6 +16,9 @@ use std::fmt::Write as _;
 
 const NUMBERS: usize = Number::ALL.len();
 const PLACES: usize = REGISTER_BYTES / AREA_BYTES;
+
+/// The kind of a pseudo meter's entry.
+const PSEUDO_METER: u8 = 7;
 
 pub type Area = [u8; AREA_BYTES];
 
@@ -115,7 +119,7 @@ impl Tally {
         match (answer.flag, read.indicator) {
             (1, indicator::NOT_SET) => self.see("a rollover accepted, indicator not set"),
             (1, _) => self.see("a rollover accepted with true"),
-            (_, indicator::FALSE) if answer.advance <= -limit(area) => {
+            (_, indicator::FALSE) if answer.advance <= -step_back(area[1]) => {
                 self.see("a step back of the limit or more accepted with false")
             }
             _ => {}
@@ -205,15 +209,6 @@ fn capacity(area: &Area) -> i64 {
 fn accepted_on(dials: u8) -> &'static str {
     let name = format!("{dials} dials, a read accepted");
     DEEP.iter().find(|row| **row == name).expect("a number of dials that a meter may have")
-}
-
-/// The first step back that is not small.
-fn limit(area: &Area) -> i64 {
-    if area[1] == 3 {
-        100
-    } else {
-        1000
-    }
 }
 
 /// The last standing read before a day.

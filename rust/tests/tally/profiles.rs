@@ -1,7 +1,7 @@
 //! The states that pseudo meters lead to.
 
 use super::journal::Journal;
-use super::{true_of, Area};
+use super::{true_of, Area, PSEUDO_METER};
 use necktureen::{letter, report, Answer, Call, Number, Reply, Submission, AREA_BYTES, REGISTER_BYTES};
 
 pub const STATES: &[&str] = &[
@@ -52,7 +52,6 @@ pub const STATES: &[&str] = &[
 ];
 
 const METER: u8 = 1;
-const PSEUDO_METER: u8 = 7;
 
 /// The states that a call was in, by the area before it and after.
 pub fn states(call: &Call, reply: Reply, before: &Area, after: &Area) -> Vec<&'static str> {

@@ -1,7 +1,7 @@
 //! The states of meters with three dials, as small standpipes have, and of four dials at the limit of their step back.
 
 use super::journal::Journal;
-use super::{true_of, Area};
+use super::{true_of, Area, PSEUDO_METER};
 use necktureen::{indicator, letter, report, Answer, Call, Number, Reply, Submission, AREA_BYTES, REGISTER_BYTES};
 
 pub const STATES: &[&str] = &[
@@ -38,8 +38,6 @@ pub const STATES: &[&str] = &[
     "four dials, a step back of 1000 refused with 18",
     "damaged by two dials alone",
 ];
-
-const PSEUDO_METER: u8 = 7;
 
 /// The states that a call was in, by the area before it and after.
 pub fn states(call: &Call, reply: Reply, before: &Area, after: &Area) -> Vec<&'static str> {
