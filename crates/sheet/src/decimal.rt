@@ -1,8 +1,8 @@
 // Numbers as decimal text, put into bytes that are lent. What is past their end is not written.
 ghost use mathlib.Core.Path.{_≡_};
-ghost use lib.IntN.{natAbs};
 ghost use Rattle.sheet.specs.Decimal.{decimal, signed};
 ghost use Rattle.sheet.specs.Inner.Put.{Put, Room};
+use arithmetic::magnitude::magnitude;
 use register::write::put_byte;
 
 // The digits before the last, and then the last. Answers where the text ends.
@@ -17,16 +17,6 @@ pub(crate) fn put_decimal(out: &mut [u8], at: usize, n: u64) -> usize
     let last = put_decimal(out, at, n / 10);
     put_byte(out, last, 48 + (n % 10) as u8);
     last + 1
-}
-
-// One is added before the sign is turned, since the least number has no opposite.
-fn magnitude(n: i64) -> u64
-    ensures { λ r. ⌜ r ≡ natAbs n ⌝ }
-{
-    if n < 0 {
-        return (-(n + 1)) as u64 + 1;
-    }
-    n as u64
 }
 
 pub(crate) fn put_signed(out: &mut [u8], at: usize, n: i64) -> usize

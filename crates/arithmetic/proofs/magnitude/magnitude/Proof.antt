@@ -1,9 +1,9 @@
 -- One more than a negative number, turned, is its magnitude less one, for the least number too; any other number is its magnitude.
 use native.Mathlib.Omega.{arith}
 use borrow.Author.Needs.{needs}
-use Rattle.sheet.proofs.Negated.{more-fits, turned-fits, turned-reads, mag-more, natural-casts}
-use Rattle.sheet.proofs.decimal.magnitude.Statement.{statement}
-use Rattle.sheet.proofs.decimal.magnitude.Tie as tie
+use Rattle.arithmetic.proofs.Negated.{more-fits, turned-fits, turned-reads, mag-more, natural-casts}
+use Rattle.arithmetic.proofs.magnitude.magnitude.Statement.{statement}
+use Rattle.arithmetic.proofs.magnitude.magnitude.Tie as tie
 
 add-result : tie.Need-add-result
 add-result c = more-fits (c .before .args .n) (c .before .fits .n) (c .if1 .taken)
