@@ -99,7 +99,7 @@ pub zero-whole : Whole zeroRegister
 unfolding zeroRegister
 zero-whole = length-replicate {A = ℕ} registerBytes 0
 
-zero-area : (meter : ℕ) → allZero (areaOf meter zeroRegister) ≡ true
+pub zero-area : (meter : ℕ) → allZero (areaOf meter zeroRegister) ≡ true
 unfolding zeroRegister areaOf
 zero-area meter = zero-take areaBytes _ (zero-drop (areaBytes * meter) _ (zero-replicate registerBytes))
 

@@ -9,7 +9,7 @@ use lib.ListN.{length}
 use Rattle.terms.specs.declared.profile.Profile.{Profile}
 use Rattle.terms.specs.declared.entry.Entry.{Entry}
 use Rattle.terms.specs.declared.submission.Submission.{Submission}
-use Rattle.terms.specs.Answer.{answer}
+use Rattle.terms.specs.Answer.{answer, acceptance}
 use Rattle.terms.specs.Entry.{kindStanding, slotAt}
 use Rattle.terms.specs.Number.{accepted}
 use Rattle.rules.specs.Volume.{advanceOver}
@@ -40,11 +40,12 @@ abbrev pub meterHead : List ℕ → Head
 meterHead area = journalOf area .head
 
 -- an accepted enrolment
-pub record Enrolled (dials : ℕ) (before after : List ℕ) : Type 0 where
+pub record Enrolled (dials : ℕ) (before after : List ℕ) (reply : Reply) : Type 0 where
   pub zero : allZero before ≡ true
   pub sound : isSound after ≡ true
   pub dials-are : meterHead after .dials ≡ dials
   pub none : standingReads after ≡ []
+  pub replied : reply ≡ Answered acceptance
 
 -- a call that leaves the standing and withdrawn reads: a held read stored
 pub record Held (before after : List ℕ) : Type 0 where
@@ -106,7 +107,7 @@ pub record Effects : Type 0 where
   pub rise : (area : List ℕ) → isSound area ≡ true → daysRise (standingReads area) ≡ true
   pub enrol : (place : ℕ) (profile : Profile) (dials capacity : ℕ) (area : List ℕ) → length area ≡ areaBytes →
       let after = act (Enrol place profile dials capacity) area in
-      numberOf (after .reply) ≡ accepted → Enrolled dials area (after .area)
+      numberOf (after .reply) ≡ accepted → Enrolled dials area (after .area) (after .reply)
   pub submit : (place : ℕ) (s : Submission) (area : List ℕ) → length area ≡ areaBytes →
       let after = act (Submit place s) area in
       numberOf (after .reply) ≡ accepted → Submitted s area (after .area) (after .reply)

@@ -71,7 +71,7 @@ module _ (local : Local) (register : List ℕ) (whole : Whole register) (call : 
     pub own-area-after : areaOf place (step call register .register) ≡ new
     own-area-after = ap (areaOf place) put-back ∙ area-same place new register new-length (room place register near whole)
 
-  refuses : areasIn register ≤ place → step call register ≡ done (refusalOf call noMeter) register
+  pub refuses : areasIn register ≤ place → step call register ≡ done (refusalOf call noMeter) register
   unfolding step placeNumber isNoPlace
   refuses far = rw (fitting, le-leb (areasIn register) place far)
 

@@ -69,7 +69,7 @@ module _ (effects : Effects) (area : List ℕ) (l : Ledger) where
   fresh : allZero area ≡ true → Good area l → Fresh area l
   fresh zero good = ⊎-elim (λ f. f) (λ g. absurd (effects .apart area zero (g .sound))) good
 
-  enrol-good : (place : ℕ) (profile : Profile) (dials capacity : ℕ) (after : List ℕ) (reply : Reply) → Enrolled dials area after → Good area l → Live after (entered (Enrol place profile dials capacity) reply l)
+  enrol-good : (place : ℕ) (profile : Profile) (dials capacity : ℕ) (after : List ℕ) (reply : Reply) → Enrolled dials area after reply → Good area l → Live after (entered (Enrol place profile dials capacity) reply l)
   unfolding entered namesOf isAmong areNoneOf namesRise firstNamed firstValue
   enrol-good place profile dials capacity after reply e good =
       let f = fresh (e .zero) good in

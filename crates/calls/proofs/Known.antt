@@ -151,8 +151,8 @@ module _ (area : List ℕ) where
 
 -- ---- what the accepted calls do
 module _ (place : ℕ) (profile : Profile) (dials capacity : ℕ) (area : List ℕ) (size : length area ≡ areaBytes) where
-  known-enrol : numberOf (act (Enrol place profile dials capacity) area .reply) ≡ accepted → Enrolled dials area (act (Enrol place profile dials capacity) area .area)
-  unfolding act those enrolChecks
+  known-enrol : numberOf (act (Enrol place profile dials capacity) area .reply) ≡ accepted → Enrolled dials area (act (Enrol place profile dials capacity) area .area) (act (Enrol place profile dials capacity) area .reply)
+  unfolding act enrolIn those enrolChecks
   known-enrol h =
       let number : enrolNumber (plateOf profile dials capacity) area ≡ accepted = sym (enrol-number (plateOf profile dials capacity) area) ∙ h in
       let e = enrolment (plateOf profile dials capacity) area size refl refl number in
@@ -162,6 +162,7 @@ module _ (place : ℕ) (profile : Profile) (dials capacity : ℕ) (area : List �
         sound = e .sound;
         dials-are = ap (λ (j : Journal). j .head .dials) (e .journal);
         none = ap (λ (j : Journal). standing (j .entries)) (e .journal);
+        replied = rw (eq-eqb (enrolNumber (plateOf profile dials capacity) area) accepted number);
       }
 
 module _ (place : ℕ) (s : Submission) (area : List ℕ) (size : length area ≡ areaBytes) where

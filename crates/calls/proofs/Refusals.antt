@@ -31,7 +31,7 @@ use Rattle.calls.proofs.Frame.{Whole, room, own-reply, own-area-after, 
 use Rattle.calls.proofs.Known.{local, enrol-number, submit-number, withdraw-number, fold-number}
 
 -- ---- a refusal, in the form of any call's answer
-refusal-number : (call : Call) (number : ℕ) → numberOf (refusalOf call number) ≡ number
+pub refusal-number : (call : Call) (number : ℕ) → numberOf (refusalOf call number) ≡ number
 unfolding numberOf refusalOf
 refusal-number (Enrol place profile dials capacity) number = refl
 refusal-number (Submit place s) number = refl

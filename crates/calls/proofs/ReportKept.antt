@@ -35,7 +35,7 @@ counts a after f =
     let rest = s .fourth ∷ s .older in
     rw (f .head-is, f .stand, standing-stay j (s .newest) (s .second) (s .third) rest (s .are), flagged-stay j (s .newest) (s .second) (s .third) rest (s .are), total-stays j (s .newest) (s .second) (s .third) rest (s .are))
 
-sound-report : (a : List ℕ) → isSound a ≡ true → reportIn a .reply ≡ Reported (reportOf (journalOf a))
+pub sound-report : (a : List ℕ) → isSound a ≡ true → reportIn a .reply ≡ Reported (reportOf (journalOf a))
 unfolding reportIn reportChecks areaRules
 sound-report a sound = by-test (allZero a) (λ zero. absurd (effects .apart a zero sound)) (λ h. rw (h, sound))
 
