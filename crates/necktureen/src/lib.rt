@@ -1,15 +1,22 @@
 // The calls for a program in C or Rust: numbers and byte slices alone, no promise asked of the caller. Each answers its number and puts the
-// other fields where the caller says. The calendar stands beside them.
+// other fields where the caller says. A tally, which the caller keeps, and the calendar stand beside them.
 ghost use mathlib.Core.Path.{_≡_};
 ghost use Rattle.calendar.specs.Date.{date, dateOf, dayOf};
 ghost use Rattle.terms.specs.Answer.{answer, reported};
 ghost use Rattle.calls.specs.Calls.{done, step, journalLength};
 ghost use Rattle.sheet.specs.Play.{Played};
+ghost use Rattle.tally.specs.Tally.{tallyReport};
+ghost use Rattle.necktureen.specs.Told.{toldOf};
+use crate::told::told;
 use calendar::date::Date;
 use calls::call::Call;
 use calls::call::Reply;
+use tally::report::report_tally;
+use tally::tally::Tally;
 use terms::profile::Profile;
 use terms::submission::Submission;
+
+pub mod told;
 
 #[no_mangle]
 pub extern "C" fn necktureen_enrol(
@@ -144,6 +151,46 @@ pub extern "C" fn necktureen_play(sheet: &[u8], register: &mut [u8], text: &mut 
     ensures { λ r. ⌜ Played (now (sheet .entry)) (now (register .entry)) (now (text .entry)) (now (register .exit)) (now (text .exit)) r ⌝ }
 {
     sheet::play::play(sheet, register, text)
+}
+
+// A tally changed in place by a call on its meter, told by its kind in a day sheet, and by the answer to it.
+#[no_mangle]
+pub extern "C" fn necktureen_tally_change(
+    tally: &mut Tally,
+    kind: u8,
+    dials: u8,
+    value: u32,
+    number: u8,
+    flag: u8,
+    advance: i64,
+)
+    ensures { λ _. ⌜ now (tally .exit) ≡ toldOf kind dials value number flag advance (now (tally .entry)) ⌝ }
+{
+    *tally = told(*tally, kind, dials, value, number, flag, advance);
+}
+
+fn put_report(t: Tally, standing: &mut u16, flagged: &mut u16, total: &mut i64) -> u8
+    ensures { λ r. ⌜ reported r (now (standing .exit)) (now (flagged .exit)) (now (total .exit)) ≡ tallyReport t ⌝ }
+{
+    let a = report_tally(t);
+    let sum = a.total;
+    *standing = a.standing;
+    *flagged = a.flagged;
+    *total = sum;
+    a.number
+}
+
+// A report from a tally: it is lent no register.
+#[no_mangle]
+pub extern "C" fn necktureen_tally_report(
+    tally: &Tally,
+    standing: &mut u16,
+    flagged: &mut u16,
+    total: &mut i64,
+) -> u8
+    ensures { λ r. ⌜ reported r (now (standing .exit)) (now (flagged .exit)) (now (total .exit)) ≡ tallyReport (now (tally .entry)) ⌝ }
+{
+    put_report(*tally, standing, flagged, total)
 }
 
 // The date of a day: zeros for day 0.

@@ -1,0 +1,4 @@
+pub mod Tally
+pub mod Change
+pub mod Kept
+pub mod Inner
