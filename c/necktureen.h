@@ -27,9 +27,9 @@
 extern "C" {
 #endif
 
-#define NECKTUREEN_VERSION "0.6.0"
+#define NECKTUREEN_VERSION "0.7.0"
 #define NECKTUREEN_VERSION_MAJOR 0
-#define NECKTUREEN_VERSION_MINOR 6
+#define NECKTUREEN_VERSION_MINOR 7
 #define NECKTUREEN_VERSION_PATCH 0
 
 #define NECKTUREEN_REGISTER_BYTES 32768
@@ -135,6 +135,27 @@ enum necktureen_indicator {
     NECKTUREEN_TRUE = 2
 };
 
+/* The calls by their kinds in a day sheet, as a tally is told of them. */
+enum necktureen_call {
+    NECKTUREEN_CALL_ENROL = 1,
+    NECKTUREEN_CALL_SUBMIT = 2,
+    NECKTUREEN_CALL_WITHDRAW = 3,
+    NECKTUREEN_CALL_REPORT = 4,
+    NECKTUREEN_CALL_FOLD = 5,
+    NECKTUREEN_CALL_ENROL_PSEUDO = 6
+};
+
+/* What a report of one meter says, kept by the caller beside the register, so that no journal is walked to ask for it:
+ * five numbers of four bytes, 20 bytes with nothing between them. All zero at first, `{0}`, before the meter is
+ * enrolled. */
+struct necktureen_tally {
+    uint32_t dials;
+    uint32_t standing; /* reads that stand, folded ones among them, at most 65,535 */
+    uint32_t flagged;  /* those of them that are flagged */
+    uint32_t first;    /* the first value and the last, 0 where none stands */
+    uint32_t last;
+};
+
 /* Enrols a meter of 3 to 9 dials and a capacity in cubic metres a year. 0, 2, 3, 24 or 25. */
 uint8_t necktureen_enrol(uint8_t *reg, size_t length, uint16_t place, uint8_t dials, uint32_t capacity,
                          uint8_t *flag, int64_t *advance);
@@ -173,6 +194,19 @@ size_t necktureen_journal(const uint8_t *reg, size_t length, uint16_t place);
  * the text. */
 size_t necktureen_play(const uint8_t *sheet, size_t sheet_length, uint8_t *reg, size_t length, uint8_t *text,
                        size_t room);
+
+/* Changes a tally in place, after every answered call that names its meter: by the call's kind, the dials of an enrolment
+ * (of either profile) or the value of a submission, and by what was answered. Pass 0 for dials or value of other calls;
+ * they are not looked at. A refusal, a report, a fold and an unknown kind change nothing; nor does what would make of it
+ * a tally that reports 4. */
+void necktureen_tally_change(struct necktureen_tally *tally, uint8_t kind, uint8_t dials, uint32_t value,
+                             uint8_t number, uint8_t flag, int64_t advance);
+
+/* Reports from a tally what necktureen_report answers of its meter, and reads no register: 0; 3 for a tally of zeros; 4
+ * for any other whose dials are not 3 to 9, with a value that the dials do not show or that is not 0 where none stands,
+ * with more flagged than standing, or with more than 65,535 standing. */
+uint8_t necktureen_tally_report(const struct necktureen_tally *tally, uint16_t *standing, uint16_t *flagged,
+                                int64_t *total);
 
 /* Puts the calendar date of a day: 2000, 1, 1 for day 1, and 2179, 6, 5 for the last, 65,535. Day 0 has none and gets
  * three zeros. */

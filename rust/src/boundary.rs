@@ -1,5 +1,7 @@
 //! The functions of the proved library, as `c/necktureen.h` declares them.
 
+use crate::Tally;
+
 extern "C" {
     pub fn necktureen_enrol(
         register: *mut u8,
@@ -66,6 +68,23 @@ extern "C" {
         text: *mut u8,
         room: usize,
     ) -> usize;
+
+    pub fn necktureen_tally_change(
+        tally: *mut Tally,
+        kind: u8,
+        dials: u8,
+        value: u32,
+        number: u8,
+        flag: u8,
+        advance: i64,
+    );
+
+    pub fn necktureen_tally_report(
+        tally: *const Tally,
+        standing: *mut u16,
+        flagged: *mut u16,
+        total: *mut i64,
+    ) -> u8;
 
     pub fn necktureen_date_of(day: u16, year: *mut u16, month: *mut u8, day_of_month: *mut u8);
 

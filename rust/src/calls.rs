@@ -1,4 +1,5 @@
-//! The calls on a register as functions: with the two of the calendar, in `date`, all that is unsafe in this crate.
+//! The calls on a register as functions: with the two of the calendar, in `date`, and the two of a tally, in `tally`, all
+//! that is unsafe in this crate.
 //!
 //! Each passes a slice's own pointer and length and, for the other fields, pointers to locals; the library keeps none
 //! of them.

@@ -10,6 +10,9 @@
 //! A journal has room for 50 entries. [`fold`] makes room: it keeps the last three standing reads and what the others
 //! come to, and a report stays the same.
 //!
+//! A [`Tally`] is kept by those who ask for one meter's total every few seconds: it is changed after each call on the
+//! meter, and reports without a register.
+//!
 //! A day is a number, 1 for 1 January 2000. [`date_of`] answers its calendar [`Date`], [`day_of`] the day of a date.
 //!
 //! No call relies on what its caller checked. A register of another length is answered [`Number::Misfit`], damaged
@@ -33,6 +36,7 @@ mod journal;
 pub mod letter;
 mod number;
 mod sheet;
+mod tally;
 
 pub use answer::{Answer, Reply, Report};
 pub use call::{Call, Submission, MISSING};
@@ -41,6 +45,7 @@ pub use date::{date_of, day_of, Date};
 pub use journal::{entries, Entries, Entry, Read};
 pub use number::{Number, UnknownNumber};
 pub use sheet::{calls, Calls, SheetEntry, SheetWriter, Unwritten, SHEET_BYTES, TEXT_BYTES};
+pub use tally::Tally;
 
 /// The bytes of a register: 64 areas of 512.
 pub const REGISTER_BYTES: usize = 32_768;
