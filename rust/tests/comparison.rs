@@ -6,13 +6,13 @@
 
 mod lists;
 mod peer;
+mod reached;
 mod sides;
-mod tally;
 
 use lists::{say, seed, setting, Idle, Random};
 use necktureen::REGISTER_BYTES;
+use reached::Reached;
 use sides::{List, Pair};
-use tally::Tally;
 
 const CALLS: u64 = 3_000_000;
 
@@ -31,11 +31,11 @@ fn beginning(random: &mut Random) -> (Vec<u8>, Vec<u16>, usize) {
     }
 }
 
-fn compare_a_list(random: &mut Random, seed: u64, tally: &mut Tally) {
+fn compare_a_list(random: &mut Random, seed: u64, reached: &mut Reached) {
     let (start, places, length) = beginning(random);
     // The guard's length varies, so that the register starts at every alignment.
     let mut pair = Pair::new(&start, 64 + random.index(16));
-    tally.begin();
+    reached.begin();
     let mut idle = Idle::default();
     let mut calls = Vec::with_capacity(length);
     for _ in 0..length {
@@ -43,7 +43,7 @@ fn compare_a_list(random: &mut Random, seed: u64, tally: &mut Tally) {
         calls.push(call);
         let before = pair.peer_area(call.place());
         match pair.call(&call) {
-            Ok(reply) => tally.count(&call, reply, before, pair.peer_area(call.place())),
+            Ok(reply) => reached.count(&call, reply, before, pair.peer_area(call.place())),
             Err(_) => sides::fail(List { start, calls }, seed),
         }
     }
@@ -54,11 +54,11 @@ fn the_library_answers_and_writes_as_the_peer_does() {
     let (seed, calls) = (seed(), setting("NECKTUREEN_CALLS", CALLS));
     say(&format!("comparing {calls} calls, seed {seed}"));
     let mut random = Random::new(seed);
-    let mut tally = Tally::new();
-    while tally.calls() < calls {
-        compare_a_list(&mut random, seed, &mut tally);
+    let mut reached = Reached::new();
+    while reached.calls() < calls {
+        compare_a_list(&mut random, seed, &mut reached);
     }
-    say(&format!("{} calls compared, seed {seed}\n{}", tally.calls(), tally.table()));
-    let unseen = tally.unseen();
+    say(&format!("{} calls compared, seed {seed}\n{}", reached.calls(), reached.table()));
+    let unseen = reached.unseen();
     assert!(calls < CALLS || unseen.is_empty(), "never reached, seed {seed}: {unseen:?}");
 }

@@ -23,7 +23,7 @@ const PSEUDO_METER: u8 = 7;
 pub type Area = [u8; AREA_BYTES];
 
 /// How often each number was answered, and each state that takes a long way to reach.
-pub struct Tally {
+pub struct Reached {
     numbers: [u64; NUMBERS],
     deep: BTreeMap<&'static str, u64>,
     /// The volume query that left each place's held read.
@@ -60,11 +60,11 @@ const DEEP: [&str; 26] = [
     "refused with 21, and in a common year it would pass",
 ];
 
-impl Tally {
-    pub fn new() -> Tally {
+impl Reached {
+    pub fn new() -> Reached {
         let states = [&DEEP[..], folds::STATES, profiles::STATES, standpipes::STATES];
         let deep = states.concat().into_iter().map(|name| (name, 0)).collect();
-        Tally { numbers: [0; NUMBERS], deep, query: [None; PLACES], dropped: Dropped::default() }
+        Reached { numbers: [0; NUMBERS], deep, query: [None; PLACES], dropped: Dropped::default() }
     }
 
     pub fn calls(&self) -> u64 {

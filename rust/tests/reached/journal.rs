@@ -1,4 +1,4 @@
-//! An area as the tally sees it.
+//! An area as the count of states sees it.
 
 use super::Area;
 use necktureen::{entries, Entry, Read};
