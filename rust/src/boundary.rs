@@ -79,12 +79,7 @@ extern "C" {
         advance: i64,
     );
 
-    pub fn necktureen_tally_report(
-        tally: *const Tally,
-        standing: *mut u16,
-        flagged: *mut u16,
-        total: *mut i64,
-    ) -> u8;
+    pub fn necktureen_tally_report(tally: *const Tally, standing: *mut u16, flagged: *mut u16, total: *mut i64) -> u8;
 
     pub fn necktureen_date_of(day: u16, year: *mut u16, month: *mut u8, day_of_month: *mut u8);
 
