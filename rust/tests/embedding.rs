@@ -1,12 +1,15 @@
 //! What the README tells an engineer to do: its code is the files that are built here, its commands print what it shows,
 //! and header and crate declare the functions that the library has, with the same numbers, words and letters.
 
+mod common;
 mod declarations;
 mod readme;
 mod text;
 
-use necktureen::{indicator, letter, Number, AREA_BYTES, MISSING, REGISTER_BYTES, SHEET_BYTES, TEXT_BYTES};
+use common::each_call;
+use necktureen::{indicator, letter, Number, Tally, AREA_BYTES, MISSING, REGISTER_BYTES, SHEET_BYTES, TEXT_BYTES};
 use readme::{blocks, Block};
+use std::mem::{align_of, offset_of, size_of};
 use std::path::PathBuf;
 use std::process::Command;
 use text::{as_text, run, run_example, text};
@@ -85,8 +88,20 @@ fn a_register_is_kept_in_a_file() {
 #[test]
 fn header_crate_and_library_declare_the_same_functions() {
     let header = declarations::of_c(&text("c/necktureen.h"));
-    let names =
-        ["date_of", "day_of", "enrol", "enrol_pseudo", "fold", "journal", "play", "report", "submit", "withdraw"];
+    let names = [
+        "date_of",
+        "day_of",
+        "enrol",
+        "enrol_pseudo",
+        "fold",
+        "journal",
+        "play",
+        "report",
+        "submit",
+        "tally_change",
+        "tally_report",
+        "withdraw",
+    ];
     let names = names.map(|name| format!("necktureen_{name}"));
     assert_eq!(header.keys().cloned().collect::<Vec<_>>(), names);
     assert_eq!(declarations::of_rust(&text("rust/src/boundary.rs")), header);
@@ -141,6 +156,40 @@ fn the_header_names_every_number_letter_and_indicator() {
     let names: Vec<String> = constants.iter().map(|row| row.0.clone()).collect();
     let values: String = constants.iter().map(|row| format!("{}\n", row.1)).collect();
     assert_eq!(printed("constants", &printing(&names)), values);
+}
+
+/// A call has the kind that a day sheet has for it.
+#[test]
+fn the_header_names_every_call() {
+    let kinds = each_call(0).map(|call| {
+        let line = call.to_string();
+        let word = line.split(' ').next().expect("its word");
+        (constant(&format!("call {word}")), call.sheet_entry().expect("an entry")[0])
+    });
+    let names = kinds.clone().map(|kind| kind.0);
+    let values: String = kinds.iter().map(|kind| format!("{}\n", kind.1)).collect();
+    assert_eq!(printed("calls", &printing(&names)), values);
+    let listed = text("c/necktureen.h").matches("    NECKTUREEN_CALL_").count();
+    assert_eq!(listed, kinds.len());
+}
+
+/// Five numbers of four bytes, one after the other, in C as in Rust.
+#[test]
+fn a_tally_has_one_layout() {
+    let fields = ["dials", "standing", "flagged", "first", "last"];
+    let mut asked = vec!["sizeof(struct necktureen_tally)".to_string()];
+    asked.extend(fields.map(|field| format!("offsetof(struct necktureen_tally, {field})")));
+    asked.extend(fields.map(|field| format!("sizeof(((struct necktureen_tally *)0)->{field})")));
+    assert_eq!(printed("layout", &printing(&asked)), "20\n0\n4\n8\n12\n16\n4\n4\n4\n4\n4\n");
+    assert_eq!((size_of::<Tally>(), align_of::<Tally>()), (20, 4));
+    let offsets = [
+        offset_of!(Tally, dials),
+        offset_of!(Tally, standing),
+        offset_of!(Tally, flagged),
+        offset_of!(Tally, first),
+        offset_of!(Tally, last),
+    ];
+    assert_eq!(offsets, [0, 4, 8, 12, 16]);
 }
 
 #[test]
@@ -215,6 +264,78 @@ fn a_pseudo_meter_is_enrolled_where_c_says() {
     let lines = "25 plate, 9 0 9, 9 0 9, 0 0\n0 accepted, 9 0 9, 9 0 9, 7 6\n24 enrolled, 9 0 9, 9 0 9, 7 6\n\
         29 other type, 9 0 9, 9 0 9, 7 6\n0 accepted, 9 0 9, 9 0 9, 7 16\n";
     assert_eq!(printed("pseudo", code), lines);
+}
+
+/// A tally is changed and reported through its pointer, and nothing beside it: an enrolment, a read, a rollover, its
+/// withdrawal, and then a tally that is broken.
+#[test]
+fn a_tally_is_changed_and_reported_where_c_says() {
+    let code = r#"
+#include <stdio.h>
+#include "necktureen.h"
+static struct necktureen_tally t[] = {{9, 9, 9, 9, 9}, {0, 0, 0, 0, 0}, {9, 9, 9, 9, 9}};
+static void say(void) {
+    uint16_t s[] = {9, 9, 9}, f[] = {9, 9, 9};
+    int64_t total[] = {9, 9, 9};
+    uint8_t number = necktureen_tally_report(&t[1], &s[1], &f[1], &total[1]);
+    for (int i = 0; i < 3; i++)
+        printf("%u %u %u %u %u, ", (unsigned)t[i].dials, (unsigned)t[i].standing, (unsigned)t[i].flagged,
+               (unsigned)t[i].first, (unsigned)t[i].last);
+    printf("%u, %u %u %u, %u %u %u, ", number, s[0], s[1], s[2], f[0], f[1], f[2]);
+    printf("%d %d %d\n", (int)total[0], (int)total[1], (int)total[2]);
+}
+int main(void) {
+    say();
+    necktureen_tally_change(&t[1], NECKTUREEN_CALL_ENROL, 4, 0, 0, 0, 0);
+    say();
+    necktureen_tally_change(&t[1], NECKTUREEN_CALL_SUBMIT, 0, 9800, 0, 0, 0);
+    say();
+    necktureen_tally_change(&t[1], NECKTUREEN_CALL_SUBMIT, 0, 100, 0, 1, 300);
+    say();
+    necktureen_tally_change(&t[1], NECKTUREEN_CALL_WITHDRAW, 0, 100, 0, 1, -300);
+    say();
+    t[1].dials = 10;
+    say();
+    return 0;
+}
+"#;
+    let line = |tally: &str, [number, standing, flagged, total]: [i64; 4]| {
+        format!("9 9 9 9 9, {tally}, 9 9 9 9 9, {number}, 9 {standing} 9, 9 {flagged} 9, 9 {total} 9\n")
+    };
+    let lines = [
+        line("0 0 0 0 0", [3, 0, 0, 0]),
+        line("4 0 0 0 0", [0, 0, 0, 0]),
+        line("4 1 0 9800 9800", [0, 1, 0, 0]),
+        line("4 2 1 9800 100", [0, 2, 1, 300]),
+        line("4 1 0 9800 9800", [0, 1, 0, 0]),
+        line("10 1 0 9800 9800", [4, 0, 0, 0]),
+    ];
+    assert_eq!(printed("tally", code), lines.concat());
+}
+
+/// C may pass any kind. One that no call has changes neither a tally of zeros nor a sound or a broken one, and nor does
+/// that of a report or a fold; each of the others changes some of them.
+#[test]
+fn a_kind_that_no_call_has_changes_no_tally() {
+    let code = r#"
+#include <stdio.h>
+#include <string.h>
+#include "necktureen.h"
+static const struct necktureen_tally before[] = {
+    {0, 0, 0, 0, 0}, {4, 0, 0, 0, 0}, {4, 2, 1, 9800, 100}, {4, 0, 0, 1, 0}
+};
+int main(void) {
+    for (unsigned kind = 0; kind < 256; kind++)
+        for (int i = 0; i < 4; i++) {
+            struct necktureen_tally t = before[i];
+            necktureen_tally_change(&t, (uint8_t)kind, 5, 200, 0, 1, -300);
+            if (memcmp(&t, &before[i], sizeof t) != 0)
+                printf("kind %u: %d\n", kind, i);
+        }
+    return 0;
+}
+"#;
+    assert_eq!(printed("kinds", code), "kind 1: 0\nkind 2: 1\nkind 2: 2\nkind 3: 2\nkind 6: 0\n");
 }
 
 /// An int that C would cut to a place is an error with -Wconversion; a constant that fits is none.

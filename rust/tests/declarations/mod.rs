@@ -44,6 +44,7 @@ fn c_types(of: &str) -> &'static [&'static str] {
         "u8" => &["uint8_t"],
         "u16" => &["uint16_t"],
         "u32" => &["uint32_t"],
+        "i64" => &["int64_t"],
         "usize" => &["size_t"],
         "&mut [u8]" => &["uint8_t *", "size_t"],
         "&[u8]" => &["const uint8_t *", "size_t"],
@@ -51,6 +52,8 @@ fn c_types(of: &str) -> &'static [&'static str] {
         "*const u8" => &["const uint8_t *"],
         "&mut u16" | "*mut u16" => &["uint16_t *"],
         "&mut i64" | "*mut i64" => &["int64_t *"],
+        "&mut Tally" | "*mut Tally" => &["struct necktureen_tally *"],
+        "&Tally" | "*const Tally" => &["const struct necktureen_tally *"],
         other => panic!("no C type for '{other}'"),
     }
 }
