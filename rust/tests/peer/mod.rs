@@ -1,9 +1,9 @@
-//! Document 01, with the leap years, the folds, the same-day search, the pseudo meters and the three-dial meters of document
-//! 02, written a second time, by hand and from the papers alone, for the tests and the benchmark.
+//! Document 01, with the leap years, the folds, the same-day search, the pseudo meters, the three-dial meters and the
+//! standing tally of document 02, written a second time, by hand and from the papers alone, for the tests and the benchmark.
 //!
-//! It shares with the library the types of a submission, of a date and of the answers and nothing else: register,
-//! rules, order of checks, calendar and day sheet are its own. Where the paper leaves room, a comment says how it is
-//! read.
+//! It shares with the library the types of a submission, of a date, of a call and of the answers and nothing else: register,
+//! rules, order of checks, tally, calendar and day sheet are its own. Where the paper leaves room, a comment says how it
+//! is read.
 #![allow(dead_code, unused_imports)]
 
 pub mod calendar;
@@ -15,10 +15,12 @@ mod search;
 mod sheet;
 mod sound;
 mod submission;
+mod tally;
 mod withdrawal;
 
 pub use search::Search;
 pub use sheet::{play, run};
+pub use tally::Tally;
 
 use necktureen::{Answer, Number, Report, Submission};
 use profile::Profile;
