@@ -1,5 +1,6 @@
 //! The library beside a second writing of the papers: the same random calls to both, every field of every answer and
-//! every byte compared.
+//! every byte compared. Both sides keep a tally of each meter, which is compared too, and is held to the full report where
+//! the register was all zero at first.
 //!
 //! `NECKTUREEN_CALLS` sets how many calls are compared and `NECKTUREEN_SEED` which; both are printed. A difference is
 //! cut down to a short list of calls and printed as a scenario and as a day sheet.
@@ -11,7 +12,7 @@ mod sides;
 
 use lists::{say, seed, setting, Idle, Random};
 use necktureen::REGISTER_BYTES;
-use reached::Reached;
+use reached::{Reached, Told};
 use sides::{List, Pair};
 
 const CALLS: u64 = 3_000_000;
@@ -41,11 +42,17 @@ fn compare_a_list(random: &mut Random, seed: u64, reached: &mut Reached) {
     for _ in 0..length {
         let call = lists::call(random, &mut idle, &pair.peer, &places);
         calls.push(call);
-        let before = pair.peer_area(call.place());
+        let (before, tally) = (pair.peer_area(call.place()), pair.tallies.of(call.place()));
         match pair.call(&call) {
-            Ok(reply) => reached.count(&call, reply, before, pair.peer_area(call.place())),
+            Ok(reply) => {
+                let told = Told { is_kept: pair.tallies.are_kept, before: tally, after: pair.tallies.of(call.place()) };
+                reached.count(&call, reply, before, pair.peer_area(call.place()), told);
+            }
             Err(_) => sides::fail(List { start, calls }, seed),
         }
+    }
+    if pair.compare_tallies().is_err() {
+        sides::fail(List { start, calls }, seed);
     }
 }
 

@@ -4,6 +4,9 @@ mod folds;
 mod journal;
 mod profiles;
 mod standpipes;
+mod tallies;
+
+pub use tallies::Told;
 
 use super::lists::step_back;
 use super::peer::calendar;
@@ -62,7 +65,7 @@ const DEEP: [&str; 26] = [
 
 impl Reached {
     pub fn new() -> Reached {
-        let states = [&DEEP[..], folds::STATES, profiles::STATES, standpipes::STATES];
+        let states = [&DEEP[..], folds::STATES, profiles::STATES, standpipes::STATES, tallies::STATES];
         let deep = states.concat().into_iter().map(|name| (name, 0)).collect();
         Reached { numbers: [0; NUMBERS], deep, query: [None; PLACES], dropped: Dropped::default() }
     }
@@ -81,8 +84,9 @@ impl Reached {
         *self.deep.get_mut(name).expect("a name of the table") += 1;
     }
 
-    /// Counts a call by its reply and by the area of its place, before it and after, if the register has one.
-    pub fn count(&mut self, call: &Call, reply: Reply, before: Option<Area>, after: Option<Area>) {
+    /// Counts a call by its reply, by the area of its place, before it and after, if the register has one, and by the
+    /// place's tally.
+    pub fn count(&mut self, call: &Call, reply: Reply, before: Option<Area>, after: Option<Area>, told: Told) {
         self.numbers[reply.number() as usize] += 1;
         let place = usize::from(call.place());
         let (Some(before), Some(after), true) = (before, after, place < PLACES) else {
@@ -93,6 +97,9 @@ impl Reached {
         }
         let of_meters = [profiles::states, standpipes::states];
         for name in of_meters.map(|states| states(call, reply, &before, &after)).concat() {
+            self.see(name);
+        }
+        for name in tallies::states(call, reply, &before, told) {
             self.see(name);
         }
         self.dropped.enter(call, reply, &before, &after);

@@ -1,17 +1,21 @@
 //! Library and peer side by side: the same call made on a register of each, and everything compared.
 
+mod tallies;
+
 use super::lists::{hexadecimal, shortened};
 use super::peer;
 use necktureen::{Call, Reply, AREA_BYTES};
 use std::fmt::Write as _;
+use tallies::Tallies;
 
 const GUARD: u8 = 0xA5;
 
-/// The library's register, between guard bytes, and the peer's.
+/// The library's register, between guard bytes, and the peer's, with a tally of each meter.
 pub struct Pair {
     wide: Vec<u8>,
     start: usize,
     pub peer: Vec<u8>,
+    pub tallies: Tallies,
 }
 
 impl Pair {
@@ -20,7 +24,7 @@ impl Pair {
         let mut wide = vec![GUARD; before];
         wide.extend_from_slice(register);
         wide.extend([GUARD; 64]);
-        Pair { wide, start: before, peer: register.to_vec() }
+        Pair { wide, start: before, peer: register.to_vec(), tallies: Tallies::beside(register) }
     }
 
     /// The area of a place in the peer's register, if it has one.
@@ -29,23 +33,31 @@ impl Pair {
         area.copied()
     }
 
-    fn library(&mut self) -> &mut [u8] {
-        &mut self.wide[self.start..self.start + self.peer.len()]
+    fn library(&self) -> &[u8] {
+        &self.wide[self.start..self.start + self.peer.len()]
     }
 
     /// Makes the call on both sides: the reply that both give, or what differs.
     pub fn call(&mut self, call: &Call) -> Result<Reply, String> {
-        let library = call.make(self.library());
+        let end = self.start + self.peer.len();
+        let library = call.make(&mut self.wide[self.start..end]);
         let peer = peer_reply(&mut self.peer, call);
         if library != peer {
             return Err(format!("the library answers {library:?}\nthe peer answers    {peer:?}"));
         }
         self.compare_bytes()?;
         self.compare_journals(call.place())?;
+        self.tallies.change(call, library)?;
+        self.tallies.compare(self.library(), call.place())?;
         Ok(library)
     }
 
-    fn compare_bytes(&mut self) -> Result<(), String> {
+    /// Holds the tally of every place to the full report.
+    pub fn compare_tallies(&self) -> Result<(), String> {
+        (0..64).try_for_each(|place| self.tallies.compare(self.library(), place))
+    }
+
+    fn compare_bytes(&self) -> Result<(), String> {
         let end = self.start + self.peer.len();
         if self.wide[..self.start].iter().any(|&byte| byte != GUARD) {
             return Err("the library wrote before the register".into());
@@ -53,7 +65,7 @@ impl Pair {
         if self.wide[end..].iter().any(|&byte| byte != GUARD) {
             return Err("the library wrote past the register".into());
         }
-        let library = &self.wide[self.start..end];
+        let library = self.library();
         if library == self.peer {
             return Ok(());
         }
@@ -63,9 +75,9 @@ impl Pair {
         Err(format!("byte {offset} of place {place} is {mine} in the library's register and {other} in the peer's"))
     }
 
-    fn compare_journals(&mut self, place: u16) -> Result<(), String> {
+    fn compare_journals(&self, place: u16) -> Result<(), String> {
         let peer = peer::journal(&self.peer, place);
-        let library = necktureen::journal(&self.wide[self.start..self.start + self.peer.len()], place);
+        let library = necktureen::journal(self.library(), place);
         if library == peer {
             return Ok(());
         }
@@ -94,15 +106,11 @@ pub struct List {
 }
 
 impl List {
-    /// Where the two sides first differ, and how.
-    fn difference(&self) -> Option<(usize, String)> {
+    /// How the two sides first differ, and the tallies at the end.
+    fn difference(&self) -> Option<String> {
         let mut pair = Pair::new(&self.start, 64);
-        for (position, call) in self.calls.iter().enumerate() {
-            if let Err(difference) = pair.call(call) {
-                return Some((position, difference));
-            }
-        }
-        None
+        let calls = self.calls.iter().try_for_each(|call| pair.call(call).map(drop));
+        calls.and_then(|()| pair.compare_tallies()).err()
     }
 
     /// Takes away calls, areas and entries that the difference does without.
@@ -148,7 +156,7 @@ impl List {
         }
         let sheet: Vec<u8> = self.calls.iter().filter_map(Call::sheet_entry).flat_map(|entry| entry.to_vec()).collect();
         let _ = writeln!(text, "as a day sheet: {}", hexadecimal(&sheet));
-        if let Some((_, difference)) = self.difference() {
+        if let Some(difference) = self.difference() {
             let _ = writeln!(text, "at the last call {difference}");
         }
         text
@@ -167,5 +175,5 @@ impl List {
 
 pub fn fail(mut list: List, seed: u64) -> ! {
     list.shorten();
-    panic!("library and peer differ, seed {seed}\n{}", list.describe());
+    panic!("library and peer differ, or a tally and the full report, seed {seed}\n{}", list.describe());
 }
