@@ -15,6 +15,15 @@ pub struct Tally {
 
 const MOST_STANDING: i128 = 65_535;
 
+/// The library's numbers, to be compared.
+impl From<necktureen::Tally> for Tally {
+    fn from(tally: necktureen::Tally) -> Tally {
+        let numbers = [tally.dials, tally.standing, tally.flagged, tally.first, tally.last];
+        let [dials, standing, flagged, first, last] = numbers.map(i128::from);
+        Tally { dials, standing, flagged, first, last }
+    }
+}
+
 impl Tally {
     /// "An all-zero tally reports 3", "any other with ... reports 4".
     pub fn number(&self) -> Number {

@@ -14,13 +14,6 @@ pub struct Tallies {
     pub are_kept: bool,
 }
 
-/// The numbers of the library's tally, as wide as the peer's.
-pub fn widened(tally: Tally) -> peer::Tally {
-    let [dials, standing, flagged, first, last] =
-        [tally.dials, tally.standing, tally.flagged, tally.first, tally.last].map(i128::from);
-    peer::Tally { dials, standing, flagged, first, last }
-}
-
 impl Tallies {
     pub fn beside(register: &[u8]) -> Tallies {
         let are_kept = register.len() == REGISTER_BYTES && register.iter().all(|&byte| byte == 0);
@@ -40,7 +33,7 @@ impl Tallies {
         let (library, peer) = (&mut self.library[Tallies::at(call.place())], &mut self.peer[Tallies::at(call.place())]);
         library.change(call, reply);
         peer.change(call, reply);
-        if widened(*library) != *peer {
+        if peer::Tally::from(*library) != *peer {
             return Err(format!("the library's tally is {library:?}\nthe peer's tally is    {peer:?}"));
         }
         let (from_library, from_peer) = (library.report(), peer.report());
@@ -52,8 +45,11 @@ impl Tallies {
 
     /// Holds the tally of a place to the full report, if it was kept from the beginning.
     pub fn compare(&self, register: &[u8], place: u16) -> Result<(), String> {
+        if !self.are_kept {
+            return Ok(());
+        }
         let (from_tally, full) = (self.of(place).report(), report(register, place));
-        if !self.are_kept || from_tally == full {
+        if from_tally == full {
             return Ok(());
         }
         Err(format!("the tally of place {place} reports {from_tally}\na full report of it is       {full}"))
