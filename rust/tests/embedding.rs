@@ -131,6 +131,26 @@ fn the_c_example_has_no_warning() {
     assert!(printed("example", &text("c/example.c")).ends_with("C 9401: 11 BF, flag 0, advance 0\n"));
 }
 
+/// The total of a meter whose dials turn, and of one read less, in C.
+#[test]
+fn the_c_polling_has_no_warning() {
+    let lines = "0 accepted, 1 standing, 0 flagged, total 0\n0 accepted, 2 standing, 0 flagged, total 200\n\
+        0 accepted, 3 standing, 0 flagged, total 400\n0 accepted, 4 standing, 1 flagged, total 700\n\
+        0 accepted, 3 standing, 0 flagged, total 400\n";
+    assert_eq!(printed("poll", &text("c/poll.c")), lines);
+}
+
+/// The same and more in Rust: after the enrolment, with a read in the withdrawn one's place, and after a fold.
+#[test]
+fn the_polling_example_prints_a_meters_totals() {
+    let output = run_example("poll", &[], &[]);
+    let lines = [(0, 0, 0), (1, 0, 0), (2, 0, 200), (3, 0, 400), (4, 1, 700), (3, 0, 400), (4, 1, 720), (4, 1, 720)];
+    let lines = lines.map(|(standing, flagged, total)| {
+        format!("0 accepted, {standing} standing, {flagged} flagged, total {total}\n")
+    });
+    assert_eq!(as_text(&output.stdout), lines.concat(), "{}", as_text(&output.stderr));
+}
+
 /// A program that prints each of these C expressions.
 fn printing(expressions: &[String]) -> String {
     let lines: String = expressions.iter().map(|e| format!("    printf(\"%lld\\n\", (long long)({e}));\n")).collect();
