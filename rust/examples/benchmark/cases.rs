@@ -1,9 +1,10 @@
 //! The cases that are measured, in the order of the tables.
 
-use crate::journals::{carried_register, damage, day, next_read_carried, pseudo_register, register, Head, Withdrawn};
+use crate::journals::{carried_register, damage, day, next_read_carried, pseudo_register, register, tally};
 use crate::journals::{read_after_turn, register_before_turn, ADVANCE, BEFORE_TURN, CAPACITY, DIALS, PLACES};
-use crate::rows::{Made, Row};
-use necktureen::{Number, Submission, REGISTER_BYTES};
+use crate::journals::{Head, Withdrawn};
+use crate::rows::{Change, Made, Row};
+use necktureen::{Answer, Call, Number, Reply, Submission, Tally, REGISTER_BYTES};
 
 pub fn rows() -> Vec<Row> {
     let mut rows = reports();
@@ -23,6 +24,7 @@ pub fn rows() -> Vec<Row> {
     rows.extend(of_pseudo_meters());
     rows.extend(of_turns());
     rows.extend([0, 50].map(|entries| row(Made::Journal, "handed back", entries, Number::Accepted)));
+    rows.extend(of_tallies());
     rows.extend([(Made::DateOf, "the date of a day"), (Made::DayOf, "the day of a date")].map(calendar));
     rows
 }
@@ -176,6 +178,27 @@ fn of_turns() -> [Row; 3] {
 
 fn turn(dials: u8, read: Submission, case: &'static str, expected: Number) -> Row {
     Row { register: register_before_turn(dials), ..row(Made::Submit(read), case, BEFORE_TURN, expected) }
+}
+
+/// Of a tally of 50 reads: the report that a journal of 50 entries is walked for, and what changes it or does not.
+fn of_tallies() -> [Row; 5] {
+    let next = Call::Submit { place: 0, read: Withdrawn::None.next_read(50, ADVANCE) };
+    let withdrawal = Call::Withdraw { place: 0, day: day(49), value: Withdrawn::None.value(49) };
+    let advance = i64::from(ADVANCE);
+    let refused = (Number::Capacity, 0);
+    [
+        row(Made::TallyReport(tally(50)), "a report from a tally", 50, Number::Accepted),
+        told("a tally changed by a submission", next, (Number::Accepted, advance), tally(51)),
+        told("a tally changed by a withdrawal", withdrawal, (Number::Accepted, -advance), tally(49)),
+        told("a tally not changed by a refusal", next, refused, tally(50)),
+        told("a tally not changed by a fold", Call::Fold { place: 0 }, (Number::Accepted, 0), tally(50)),
+    ]
+}
+
+/// A tally of 50 reads is told of a call and its answer.
+fn told(case: &'static str, call: Call, (number, advance): (Number, i64), after: Tally) -> Row {
+    let reply = Reply::Answer(Answer { number, flag: 0, advance });
+    row(Made::TallyChange(Change { before: tally(50), call, reply, after }), case, 50, Number::Accepted)
 }
 
 /// Without a register.

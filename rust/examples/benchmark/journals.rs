@@ -1,7 +1,7 @@
 //! The registers that calls are made on: 64 equal journals, with reads of every type but F, of which only one may stand.
 //! Those of pseudo meters have an I and an F, and those whose dials are about to turn three reads just below the turn.
 
-use necktureen::{Submission, AREA_BYTES};
+use necktureen::{Submission, Tally, AREA_BYTES};
 
 pub const PLACES: u16 = 64;
 pub const DIALS: u8 = 6;
@@ -132,6 +132,12 @@ pub fn register(entries: usize, withdrawn: Withdrawn) -> Vec<u8> {
         write_entry(entry, kind, day, value, letter(standing));
     }
     area.repeat(usize::from(PLACES))
+}
+
+/// The tally of such a journal where nothing is withdrawn: of so many reads, at least one.
+pub fn tally(entries: usize) -> Tally {
+    let [first, last] = [0, entries - 1].map(|standing| Withdrawn::None.value(standing));
+    Tally { dials: DIALS.into(), standing: entries as u32, flagged: 0, first, last }
 }
 
 /// The same with a carry of the first reads, and so many standing ones after it.

@@ -1,9 +1,9 @@
 //! A row of the tables: a call, the journals that it is made on, and the answer that it gets. A call of the calendar is
-//! made on none.
+//! made on none, and that of a tally on 64 equal ones.
 
 use crate::journals::Head;
 use crate::sides::{Side, LIBRARY, PEER};
-use necktureen::{Date, Number, Submission};
+use necktureen::{Call, Date, Number, Reply, Submission, Tally};
 use std::hint::black_box;
 use std::time::{Duration, Instant};
 
@@ -17,12 +17,25 @@ pub enum Made {
     Fold,
     Report,
     Journal,
+    TallyReport(Tally),
+    TallyChange(Change),
     DateOf,
     DayOf,
 }
 
+/// What a tally is told of, and what becomes of it.
+#[derive(Clone, Copy)]
+pub struct Change {
+    pub before: Tally,
+    pub call: Call,
+    pub reply: Reply,
+    pub after: Tally,
+}
+
 /// From one day that the calendar is asked for to the next: 64 of them are spread over its years, and over the months.
 const DAYS_APART: u16 = 1021;
+/// How many tallies there are, one for each place.
+const PLACES: usize = crate::journals::PLACES as usize;
 
 fn day_at(place: u16) -> u16 {
     DAYS_APART * (place + 1)
@@ -30,6 +43,14 @@ fn day_at(place: u16) -> u16 {
 
 fn date_at(place: u16) -> Date {
     (PEER.date_of)(day_at(place)).expect("a day of the calendar")
+}
+
+impl Change {
+    fn made_by(self, side: Side) -> Tally {
+        let mut tally = self.before;
+        (side.tally_change)(&mut tally, &self.call, self.reply);
+        tally
+    }
 }
 
 impl Made {
@@ -42,6 +63,8 @@ impl Made {
             Made::Fold => "fold",
             Made::Report => "report",
             Made::Journal => "journal",
+            Made::TallyReport(_) => "tally_report",
+            Made::TallyChange(_) => "tally_change",
             Made::DateOf => "date_of",
             Made::DayOf => "day_of",
         }
@@ -54,8 +77,8 @@ pub struct Row {
     pub entries: usize,
     /// What the journals begin with, which is no entry of theirs.
     pub head: Head,
-    /// What the call is answered. The journal call, which answers no number, has that of a report, and a call of the
-    /// calendar is accepted if it is answered as the peer's.
+    /// What the call is answered. The journal call, which answers no number, has that of a report. A call of the calendar
+    /// is accepted if it is answered as the peer's, a tally's report if it is the register's, and a change if it is right.
     pub expected: Number,
     pub made: Made,
     /// Where the calls go, one after the other.
@@ -72,7 +95,8 @@ impl Row {
     /// A call that stores, marks or folds reads finds another register the second time.
     fn changes(&self) -> bool {
         let stored = [Number::Accepted, Number::Low, Number::High].contains(&self.expected);
-        let only_reads = matches!(self.made, Made::Report | Made::Journal | Made::DateOf | Made::DayOf);
+        let only_reads =
+            matches!(self.made, Made::Report | Made::Journal | Made::TallyReport(_) | Made::DateOf | Made::DayOf);
         stored && !only_reads
     }
 
@@ -95,6 +119,11 @@ impl Row {
             Made::Report => (side.report)(register, place).number,
             Made::Journal if (side.journal)(register, place).is_empty() => Number::NoMeter,
             Made::Journal => Number::Accepted,
+            Made::TallyReport(tally) if (side.tally_report)(&tally) == (side.report)(register, place) => {
+                Number::Accepted
+            }
+            Made::TallyChange(change) if change.made_by(side) == change.after => Number::Accepted,
+            Made::TallyReport(_) | Made::TallyChange(_) => Number::Damaged,
             Made::DateOf if (side.date_of)(day_at(place)) == (PEER.date_of)(day_at(place)) => Number::Accepted,
             Made::DayOf if (side.day_of)(date_at(place)) == Some(day_at(place)) => Number::Accepted,
             Made::DateOf | Made::DayOf => Number::Date,
@@ -125,6 +154,14 @@ impl Row {
             Made::Journal => self.stretches(passes, |register, place| {
                 let _ = black_box((side.journal)(register, place));
             }),
+            Made::TallyReport(tally) => self.stretches_on(&[tally; PLACES], passes, |tallies, place| {
+                let _ = black_box((side.tally_report)(&tallies[usize::from(place)]));
+            }),
+            Made::TallyChange(Change { before, call, reply, .. }) => {
+                self.stretches_on(&[before; PLACES], passes, |tallies, place| {
+                    (side.tally_change)(&mut tallies[usize::from(place)], black_box(&call), black_box(reply));
+                })
+            }
             Made::DateOf => self.stretches(passes, |_, place| {
                 let _ = black_box((side.date_of)(day_at(place)));
             }),
@@ -137,23 +174,27 @@ impl Row {
         }
     }
 
-    /// Where calls change the register, it is copied back before each pass, outside the time.
     fn stretches(&self, passes: u32, call: impl Fn(&mut [u8], u16)) -> Duration {
-        let mut register = self.register.clone();
+        self.stretches_on(&self.register, passes, call)
+    }
+
+    /// Where calls change the register, or the tallies, these are copied back before each pass, outside the time.
+    fn stretches_on<T: Copy>(&self, prepared: &[T], passes: u32, call: impl Fn(&mut [T], u16)) -> Duration {
+        let mut lent = prepared.to_vec();
         let (stretches, passes) = if self.changes() { (passes, 1) } else { (1, passes) };
         let mut spent = Duration::ZERO;
         for _ in 0..stretches {
-            register.copy_from_slice(&self.register);
-            spent += self.stretch(passes, &mut register, &call);
+            lent.copy_from_slice(prepared);
+            spent += self.stretch(passes, &mut lent, &call);
         }
         spent
     }
 
-    fn stretch(&self, passes: u32, register: &mut [u8], call: &impl Fn(&mut [u8], u16)) -> Duration {
+    fn stretch<T>(&self, passes: u32, lent: &mut [T], call: &impl Fn(&mut [T], u16)) -> Duration {
         let begin = Instant::now();
         for _ in 0..passes {
             for &place in &self.places {
-                call(black_box(&mut *register), black_box(place));
+                call(black_box(&mut *lent), black_box(place));
             }
         }
         begin.elapsed()

@@ -1,7 +1,7 @@
 //! The two sides: the library, and the peer, a second writing of the same rules by hand.
 
 use crate::peer;
-use necktureen::{Answer, Date, Report, Submission};
+use necktureen::{Answer, Call, Date, Reply, Report, Submission, Tally};
 
 /// Both sides are called through pointers, so that neither is inlined into the loop that calls it.
 #[derive(Clone, Copy)]
@@ -13,6 +13,8 @@ pub struct Side {
     pub fold: fn(&mut [u8], u16) -> Answer,
     pub report: fn(&[u8], u16) -> Report,
     pub journal: fn(&[u8], u16) -> &[u8],
+    pub tally_change: fn(&mut Tally, &Call, Reply),
+    pub tally_report: fn(&Tally) -> Report,
     pub date_of: fn(u16) -> Option<Date>,
     pub day_of: fn(Date) -> Option<u16>,
 }
@@ -25,6 +27,8 @@ pub const LIBRARY: Side = Side {
     fold: necktureen::fold,
     report: necktureen::report,
     journal: necktureen::journal,
+    tally_change: Tally::change,
+    tally_report: Tally::report,
     date_of: necktureen::date_of,
     day_of: necktureen::day_of,
 };
@@ -37,6 +41,21 @@ pub const PEER: Side = Side {
     fold: peer::fold,
     report: peer::report,
     journal: peer::journal,
+    tally_change: peer_tally_change,
+    tally_report: peer_tally_report,
     date_of: peer::calendar::date_of,
     day_of: peer::calendar::day_of,
 };
+
+/// The peer has wide numbers of its own: those of a tally are put in them first, and back after a change.
+fn peer_tally_change(tally: &mut Tally, call: &Call, reply: Reply) {
+    let mut wide = peer::Tally::from(*tally);
+    wide.change(call, reply);
+    let numbers = [wide.dials, wide.standing, wide.flagged, wide.first, wide.last];
+    let [dials, standing, flagged, first, last] = numbers.map(|number| number as u32);
+    *tally = Tally { dials, standing, flagged, first, last };
+}
+
+fn peer_tally_report(tally: &Tally) -> Report {
+    peer::Tally::from(*tally).report()
+}
