@@ -1,12 +1,11 @@
 //! A site that is read every month for sixty years, and whose journal is folded whenever it is full: a house, and a
-//! standpipe of three dials. After every call its report is held to what is counted here, without a look at the register.
+//! standpipe of three dials. After every call its report, and that of a tally kept beside it, is held to what is counted
+//! here, without a look at the register.
 
 mod common;
 
 use common::*;
-use necktureen::{
-    day_of, enrol, fold, journal, report, submit, withdraw, Answer, Date, Number, Report, Submission, AREA_BYTES,
-};
+use necktureen::{day_of, journal, report, Answer, Call, Date, Number, Reply, Report, Submission, Tally, AREA_BYTES};
 
 const MONTHS: u16 = 720;
 
@@ -43,10 +42,11 @@ fn first_of(month: u16) -> u16 {
     day_of(Date { year, month, day: 1 }).expect("a day of the calendar")
 }
 
-/// The register, and what was counted.
+/// The register, the meter's tally, and what was counted.
 struct Site {
     meter: Meter,
     register: Vec<u8>,
+    tally: Tally,
     standing: u16,
     flagged: u16,
     total: i64,
@@ -59,15 +59,42 @@ struct Site {
 
 impl Site {
     fn new(meter: Meter) -> Site {
-        let mut register = zeros();
-        assert_eq!(enrol(&mut register, 40, meter.dials, meter.capacity).number, Number::Accepted);
-        Site { meter, register, standing: 0, flagged: 0, total: 0, folds: 0, flags_withdrawn: 0, known: 0, dropped: 0 }
+        let mut site = Site {
+            meter,
+            register: zeros(),
+            tally: Tally::default(),
+            standing: 0,
+            flagged: 0,
+            total: 0,
+            folds: 0,
+            flags_withdrawn: 0,
+            known: 0,
+            dropped: 0,
+        };
+        let enrolment = Call::Enrol { place: 40, dials: meter.dials, capacity: meter.capacity };
+        assert_eq!(site.make(enrolment).number, Number::Accepted);
+        site
+    }
+
+    /// Makes a call, and tells the tally of it.
+    fn make(&mut self, call: Call) -> Answer {
+        let reply = guarded(&mut self.register, |r| call.make(r));
+        self.tally.change(&call, reply);
+        match reply {
+            Reply::Answer(answer) => answer,
+            other => panic!("{call} is answered {other}"),
+        }
+    }
+
+    fn submit(&mut self, read: Submission) -> Answer {
+        self.make(Call::Submit { place: 40, read })
     }
 
     fn is_reported(&self) {
         let Site { standing, flagged, total, .. } = *self;
         let expected = Report { number: Number::Accepted, standing, flagged, total };
         assert_eq!(report(&self.register, 40), expected);
+        assert_eq!(self.tally.report(), expected);
     }
 
     /// The read of a day, on which the total is this.
@@ -79,11 +106,11 @@ impl Site {
     /// Sends a read. If the journal is full it is folded, and the read sent again.
     fn take(&mut self, day: u16, total: i64) {
         let read = self.read(day, total);
-        let mut answer = submit(&mut self.register, 40, read);
+        let mut answer = self.submit(read);
         if answer.number == Number::Full {
             self.is_reported();
             self.fold();
-            answer = submit(&mut self.register, 40, read);
+            answer = self.submit(read);
         }
         let flag = self.meter.dials_after(total).1 - self.meter.dials_after(self.total).1;
         let expected = Answer { number: Number::Accepted, flag: flag as u8, advance: total - self.total };
@@ -97,9 +124,9 @@ impl Site {
     fn fold(&mut self) {
         let entries = journal(&self.register, 40).len();
         assert_eq!(entries, if self.folds == 0 { 506 } else { 505 });
-        assert_eq!(guarded(&mut self.register, |r| fold(r, 40)), refusal(Number::Accepted));
+        assert_eq!(self.make(Call::Fold { place: 40 }), refusal(Number::Accepted));
         self.is_reported();
-        assert_eq!(fold(&mut self.register, 40), refusal(Number::NoFold), "twice in a row");
+        assert_eq!(self.make(Call::Fold { place: 40 }), refusal(Number::NoFold), "twice in a row");
         self.is_reported();
         self.folds += 1;
     }
@@ -108,7 +135,7 @@ impl Site {
     fn misread(&mut self, day: u16, total: i64) {
         let (before, flagged) = (self.total, self.flagged);
         self.take(day, total);
-        let answer = withdraw(&mut self.register, 40, day, self.meter.dials_after(total).0);
+        let answer = self.make(Call::Withdraw { place: 40, day, value: self.meter.dials_after(total).0 });
         let flag = (self.flagged - flagged) as u8;
         assert_eq!(answer, Answer { number: Number::Accepted, flag, advance: before - total });
         (self.standing, self.flagged, self.total) = (self.standing - 1, flagged, before);
@@ -120,7 +147,7 @@ impl Site {
     fn comes_again(&mut self, day: u16, total: i64) {
         let before = self.register.clone();
         let again = read(day, b'C', self.meter.dials_after(total).0);
-        let number = submit(&mut self.register, 40, again).number;
+        let number = self.submit(again).number;
         match number {
             Number::Withdrawn => self.known += 1,
             Number::At | Number::Eh | Number::Bf | Number::BackDated => self.dropped += 1,
