@@ -144,6 +144,16 @@ fn a_broken_tally_of_every_clause_reports_4_beside_a_sound_one() {
     }
 }
 
+#[test]
+fn the_largest_total_and_the_least_are_reported() {
+    let nines = 999_999_999;
+    let largest = 65_535 * 1_000_000_000 + i64::from(nines);
+    assert_eq!(tally([9, 65_535, 65_535, 0, nines]).report(), reported(65_535, 65_535, largest));
+    assert_eq!(tally([9, 65_535, 0, nines, 0]).report(), reported(65_535, 0, -i64::from(nines)));
+    assert_eq!(tally([3, 1, 1, 999, 0]).report(), reported(1, 1, 1));
+    assert_eq!(tally([3, 0, 0, 0, 0]).report(), reported(0, 0, 0));
+}
+
 /// By no call and no answer; the sound one is changed by some.
 #[test]
 fn a_broken_tally_is_not_changed() {
