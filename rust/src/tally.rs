@@ -28,8 +28,9 @@ pub struct Tally {
 }
 
 impl Tally {
-    /// Changes the tally as a call on its meter, answered so, changed the meter. A refusal changes nothing, nor does a
-    /// fold or a report; nor does a call that the tally's meter cannot have been answered so, as a second enrolment.
+    /// Changes the tally as the call, answered so, changed its meter. A refusal changes nothing, nor does a fold or a
+    /// report. A change that leads from or to a tally that reports [`Number::Damaged`] is not made, nor is a second
+    /// enrolment.
     pub fn change(&mut self, call: &Call, reply: Reply) {
         let Reply::Answer(Answer { number, flag, advance }) = reply else { return };
         let (kind, dials, value) = match *call {

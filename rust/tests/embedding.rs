@@ -18,7 +18,14 @@ use text::{as_text, run, run_example, text};
 
 #[test]
 fn the_readme_shows_the_examples_as_they_are_built() {
-    let mut files = vec!["c/example.c", "rust/examples/embed.rs", "rust/examples/fold.rs", "rust/examples/keep.rs"];
+    let mut files = vec![
+        "c/example.c",
+        "c/poll.c",
+        "rust/examples/embed.rs",
+        "rust/examples/fold.rs",
+        "rust/examples/keep.rs",
+        "rust/examples/poll.rs",
+    ];
     for block in blocks(&text("README.md")) {
         if let Block::Fenced { word, text: code } = block {
             if word == "text" {
