@@ -1,4 +1,5 @@
 pub mod Tally
 pub mod Change
 pub mod Kept
+pub mod Examples
 pub mod Inner
