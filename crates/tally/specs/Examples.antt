@@ -140,6 +140,7 @@ pub record TallyExamplesHold : Type 0 where
   -- "an accepted withdrawal's answered advance and flag × 10^n are added to the last"
   pub taken-back : after (withdrew 1180 9400 0 (negℤ (pos 200))) two ≡ one
   pub taken-back-over-the-turn : after (withdrew 1540 100 1 (negℤ (pos 700))) turned ≡ two
+  pub two-turns-taken-back : after (withdrew 1720 50 2 (negℤ (pos 10650))) (tallied 4 4 2 9200 50) ≡ tallied 4 3 0 9200 9400
   pub step-back-taken-back : after (withdrew 1540 9370 0 (pos 30)) (tallied 4 3 0 9200 9370) ≡ two
   pub withdrawal-refused : after withdrawRefused two ≡ two
   -- "Both values are 0 where none stands."

@@ -71,6 +71,7 @@ returns c =
       high-not-counted = refl;
       taken-back = refl;
       taken-back-over-the-turn = refl;
+      two-turns-taken-back = refl;
       step-back-taken-back = refl;
       withdrawal-refused = refl;
       only-read-gone = refl;
