@@ -8,7 +8,7 @@
  * the numbers below. A number other than 0 changes no byte of the register and puts zeros in the other fields; 19 and
  * 20 store the held read.
  *
- * Pointers: a pointer and its length belong together. What is written (register, text, the other fields) is valid, apart
+ * Pointers: a pointer and its length belong together. What is written (register, text, tally, other fields) is valid, apart
  * from each other and from all else that is lent. No pointer is kept, nothing is allocated, and nothing is remembered
  * between calls: calls on different registers may run at the same time, calls on one register one at a time.
  *

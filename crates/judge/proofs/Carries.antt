@@ -1,18 +1,14 @@
--- The first standing read of some entries, and a carry by its day.
-use mathlib.Core.Path.{_≡_, refl, sym}
+-- The first standing read of some entries.
+use mathlib.Core.Path.{_≡_}
 use mathlib.Core.Bool.{Bool, true, false}
 use mathlib.Core.List.{List, [], _∷_}
 use Prim.Native.Nat.{ℕ, zero, suc, _+_, _-_, _<_}
 use native.Mathlib.Omega.{arith}
-use borrow.Author.Tests.{le-ltb}
-use lib.Dec.{ltb}
 use Rattle.terms.specs.declared.entry.Entry.{Entry}
-use Rattle.terms.specs.declared.entry.Slot.{Slot}
-use Rattle.terms.specs.declared.entry.Slot.the-variants.{Read, Empty}
+use Rattle.terms.specs.declared.entry.Slot.the-variants.{Read}
 use Rattle.terms.specs.Entry.{isStanding, keepIf, those}
 use Rattle.register.specs.Entries.{entryStart, entryAt}
 use Rattle.journal.specs.Journal.{entriesTo, standing, oldestOf, dayOf}
-use Rattle.journal.specs.Sound.{isBefore}
 use Rattle.journal.proofs.Entries.{those-more}
 
 -- ---- which read is the oldest does not change with the reads after it
@@ -43,9 +39,3 @@ module _ (a : List ℕ) where
         let here : oldestOf (standing (entriesTo (k + 1) a)) ≡ Read e = rw (those-more k a isStanding read is, h, none) in
         let all : m - (k + 1) + (k + 1) ≡ m = omega arith in
         rw (rw all at (oldest-after (k + 1) (m - (k + 1)) here))
-
--- ---- no read is before every day
-pub before-day : (folded : ℕ) (slot : Slot) → isBefore folded slot ≡ ltb folded (dayOf slot)
-unfolding isBefore dayOf
-before-day folded (Read oldest) = refl
-before-day folded Empty = sym (le-ltb folded 0 (omega arith))

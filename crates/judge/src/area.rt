@@ -22,12 +22,11 @@ use crate::passed::pass_over;
 use crate::read::entry_at;
 use crate::read::head_at;
 use crate::run::Run;
-use journal::plate::is_plate;
+use journal::plate::is_meter;
 use register::area::Layout;
 use register::head::Head;
 use register::head::head_bytes;
 use register::zeros::is_zero_from;
-use terms::profile::meter_kind;
 
 // Counts over a journal's entries.
 pub struct Counts {
@@ -118,8 +117,7 @@ fn is_head(area: &[u8], head: Head) -> bool
     requires { ⌜ (length (now area) ≡ areaBytes) × (head ≡ headOf (now area)) ⌝ }
     ensures { λ r. ⌜ r ≡ isHead (now (area .entry)) ⌝ }
 {
-    let profile = head.profile;
-    (area[0] == meter_kind(profile)) & is_plate(head)
+    is_meter(area[0], head)
 }
 
 // What was found, where it is no sound journal.

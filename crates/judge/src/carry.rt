@@ -3,12 +3,12 @@ ghost use mathlib.Core.Path.{_≡_};
 ghost use Prim.Native.Nat.{_≤_};
 ghost use lib.ListN.{length};
 ghost use Rattle.arithmetic.specs.Powers.{tenTo};
-ghost use Rattle.terms.specs.declared.entry.Slot.{Slot};
 ghost use Rattle.register.specs.Entries.{entryStart};
 ghost use Rattle.journal.specs.Journal.{entriesTo, standing, oldestOf, dayOf};
-ghost use Rattle.journal.specs.Sound.{isCarry, carriesRight};
+ghost use Rattle.journal.specs.Sound.{carriesRight};
 use crate::read::entry_at;
 use crate::run::Run;
+use journal::carry::is_carry;
 use journal::order::is_standing;
 use register::head::Head;
 
@@ -26,17 +26,6 @@ fn oldest_day(body: &[u8], m: u8) -> u16
         k += 1;
     }
     0
-}
-
-// A carry, by the day of the oldest read that was kept. Days are counted from 1 and have one standing read at most, so that fewer were folded
-// than that day's number.
-fn is_carry(head: Head, limit: u32, oldest: u16) -> bool
-    requires { ⌜ limit ≡ tenTo (head .dials) ⌝ }
-    ensures { λ r. ⌜ ((slot : Slot) → oldest ≡ dayOf slot → r ≡ isCarry head slot) ⌝ }
-{
-    let carry = head.carry;
-    (carry.first < limit)
-        & ((carry.flagged <= carry.folded) & ((1 <= carry.folded) & (carry.folded < oldest)))
 }
 
 // A head without a carry asks nothing of the entries.

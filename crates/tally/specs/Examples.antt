@@ -154,6 +154,7 @@ pub record TallyExamplesHold : Type 0 where
   pub enrol-reported : tallyAfter (enrolledAs Ordinary 4 .call) (asked .reply) zeroTally ≡ zeroTally
   pub submit-reported : tallyAfter (submitted 1180 9400 0 (pos 200) .call) (asked .reply) one ≡ one
   pub withdraw-reported : tallyAfter (withdrew 1180 9400 0 (pos 0) .call) (asked .reply) two ≡ two
+  pub fold-reported : tallyAfter (foldAnswered accepted .call) (asked .reply) turned ≡ turned
   pub report-answered : tallyAfter (asked .call) (submitted 1180 9400 0 (pos 200) .reply) one ≡ one
   -- "a change from .. one .. is not made", though it would be to one that reports 0
   pub from-first-of-none : after (submitted 1000 9200 0 (pos 0)) (tallied 4 0 0 1 0) ≡ tallied 4 0 0 1 0

@@ -93,8 +93,8 @@ fn move_by(limit: u32, from: u64, advance: i64) -> Moved
     shown(limit, from + size)
 }
 
-// The last value after a withdrawal: 0 where the only read goes. Flag × 10^n is added before the advance, so that no sum is below 0 that need
-// not be.
+// The last value after a withdrawal: 0 where the only read goes. Flag × 10^n is added before the advance: what the advance is then added to, or
+// taken from, is not below 0.
 fn last_without(t: Tally, flag: u8, advance: i64) -> Moved
     ensures { λ r. ⌜ r ≡ movedTo (tenTo (t .dials)) (withoutRead flag advance t .last) ⌝ }
 {

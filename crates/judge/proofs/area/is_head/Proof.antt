@@ -4,18 +4,15 @@ use borrow.Author.Needs.{needs}
 use Rattle.judge.proofs.area.is_head.Statement.{statement}
 use Rattle.judge.proofs.area.is_head.Tie as tie
 
-shared-slice-read-result : tie.Need-shared-slice-read-result
-shared-slice-read-result c = search needs
+shared-slice-read-is-meter : tie.Need-shared-slice-read-is-meter
+shared-slice-read-is-meter c = search needs
 
-meter-kind-requires : tie.Need-meter-kind-requires
-meter-kind-requires c κs = search needs
-
-is-plate-requires : tie.Need-is-plate-requires
-is-plate-requires c κs = search needs
+is-meter-requires : tie.Need-is-meter-requires
+is-meter-requires c κs = search needs
 
 returns : tie.Need-returns
 unfolding isHead
-returns c = rw (c .is-plate .ensures, c .before .meter-kind .ensures, c .before .before .before .before .pre .1)
+returns c = rw (c .is-meter .ensures, c .before .before .before .pre .1)
 
 pub is-head-spec : {M : Type 1} → statement M
-is-head-spec = tie.close (tie.spec shared-slice-read-result meter-kind-requires is-plate-requires returns)
+is-head-spec = tie.close (tie.spec shared-slice-read-is-meter is-meter-requires returns)

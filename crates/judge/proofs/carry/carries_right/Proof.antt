@@ -16,7 +16,7 @@ is-carry-requires c κs = search needs
 
 returns-2 : tie.Need-returns-2
 unfolding carriesRight
-returns-2 c = rw (c .before .before .if1 .left) (c .is-carry .ensures _ (c .before .oldest-day .ensures))
+returns-2 c = rw (c .before .before .if1 .left) (c .is-carry .ensures (c .before .before .before .before .before .pre .1) _ (c .before .oldest-day .ensures))
 
 pub carries-right-spec : {M : Type 1} → statement M
 carries-right-spec = tie.close (tie.spec returns oldest-day-requires is-carry-requires returns-2)

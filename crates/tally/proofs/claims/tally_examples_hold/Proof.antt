@@ -82,6 +82,7 @@ returns c =
       enrol-reported = refl;
       submit-reported = refl;
       withdraw-reported = refl;
+      fold-reported = refl;
       report-answered = refl;
       from-first-of-none = refl;
       from-a-last-too-large = refl;
