@@ -145,6 +145,7 @@ pub record TallyExamplesHold : Type 0 where
   pub withdrawal-refused : after withdrawRefused two ≡ two
   -- "Both values are 0 where none stands."
   pub only-read-gone : after (withdrew 1000 9200 0 (pos 0)) one ≡ none
+  pub only-read-gone-whatever-advance : after (withdrew 1000 9200 0 (negℤ (pos 9300))) one ≡ none
   pub only-flagged-gone : after (withdrew 1000 9200 1 (pos 0)) (tallied 4 1 1 9200 9200) ≡ none
   -- a fold and a report change nothing
   pub fold-changes-nothing : after (foldAnswered accepted) turned ≡ turned

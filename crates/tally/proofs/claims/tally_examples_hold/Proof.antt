@@ -75,6 +75,7 @@ returns c =
       step-back-taken-back = refl;
       withdrawal-refused = refl;
       only-read-gone = refl;
+      only-read-gone-whatever-advance = refl;
       only-flagged-gone = refl;
       fold-changes-nothing = refl;
       no-fold-changes-nothing = refl;
