@@ -19,7 +19,7 @@ use Rattle.journal.specs.Journal.{journalOf, standing, withdrawn, heldOf}
 use Rattle.journal.specs.Numbers.{areaRules}
 use Rattle.journal.specs.Sound.{isSound}
 use Rattle.calls.specs.Checks.{takenFlag, enrolChecks, submitChecks, withdrawChecks, reportChecks, isNoFold, foldRules, foldChecks}
-use Rattle.calls.specs.Calls.{Acted, refused, enrolIn, entryFor, written, isVolumeQuery, submitIn, withdrawIn, reportIn, foldIn}
+use Rattle.calls.specs.Calls.{Acted, refused, enrolIn, entryFor, written, isVolumeQuery, submitIn, withdrawIn, reportIn, foldIn, trialIn}
 use Rattle.calls.proofs.Bools.{by-test}
 use Rattle.calls.proofs.Broken.{unbroken}
 use Rattle.calls.proofs.Enrolled.{Enrolled, enrolled}
@@ -152,3 +152,8 @@ module _ (a : List ℕ) where
 pub report-unchanged : (a : List ℕ) → reportIn a .area ≡ a
 unfolding reportIn
 report-unchanged a = by-test (eqb (firstBroken (reportChecks a)) accepted) (λ h. rw h) (λ h. rw h)
+
+-- ---- trial
+pub trial-unchanged : (s : Submission) (a : List ℕ) → trialIn s a .area ≡ a
+unfolding trialIn
+trial-unchanged s a = refl

@@ -5,7 +5,6 @@ use mathlib.Core.Bool.{true, false, _&&_, cond}
 use mathlib.Core.List.{List, [], _∷_, _++_}
 use Prim.Native.Nat.{ℕ, zero, suc, _*_, _-_, _^_, _<_}
 use native.Mathlib.Omega.{arith}
-use borrow.Author.Tests.{eqb-true, eqb-false, eq-eqb, ne-eqb}
 use lib.Dec.{eqb}
 use lib.IntN.{ℤ, pos, _+ℤ_, _*ℤ_, *ℤ-zero}
 use lib.ListN.{length, take, length-replicate, length-append}
@@ -25,7 +24,7 @@ use Rattle.journal.specs.Total.{flaggedOf, flaggedIn, firstIn, totalOf}
 use Rattle.calls.specs.Ledger.{Named, named, Ledger, emptyLedger, entered, isAccepted, ledgerAfter, ledgerOf, firstValueOf, lastLessFirst, lessFirst, areNoneOf}
 use Rattle.calls.specs.DemandThree.{namesOf, RunHolds, callsB, DemandThree}
 use Rattle.calls.proofs.Bools.{both, left-or, right-or, by-test}
-use Rattle.calls.proofs.Frame.{Local, Whole, Near, near-all, room, own-reply, own-area-after, step-whole, other-area, agree}
+use Rattle.calls.proofs.Frame.{Local, Whole, Near, near-all, room, own-reply, own-area-after, step-whole, named-place, unnamed-area, agree}
 use Rattle.calls.proofs.Zeros.{zero-drop, zero-replicate}
 use Rattle.calls.proofs.Totals.{flagged-none, flagged-bare, folded-bare, total-sum}
 use Rattle.calls.proofs.Effects.{meterHead, standingReads, Effects}
@@ -35,14 +34,6 @@ use Rattle.calls.proofs.Unenrolled.{Without, without-enrolment}
 
 -- whether an exchange is accepted at a meter
 module _ (meter : ℕ) where
-  names-it : (call : Call) → placeOf call ≡ meter → names meter call ≡ true
-  unfolding names
-  names-it call at = eq-eqb (placeOf call) meter at
-
-  names-not : (call : Call) → (placeOf call ≡ meter → ⊥) → names meter call ≡ false
-  unfolding names
-  names-not call apart = ne-eqb (placeOf call) meter apart
-
   accepted-here : (x : Exchange) → names meter (x .call) ≡ true → isAccepted meter x ≡ eqb (numberOf (x .reply)) accepted
   unfolding isAccepted
   accepted-here x h = rw h
@@ -65,22 +56,20 @@ module _ (local : Local) (effects : Effects) (meter : ℕ) (near : Near meter) w
     abbrev Entered : Type 0
     Entered = Good (areaOf meter (step call register .register)) (cond (isAccepted meter x) (entered call (step call register .reply) l) l)
 
-    own : placeOf call ≡ meter → Entered
-    own at =
+    own : names meter call ≡ true → Entered
+    own named =
+        let at = named-place meter call named in
         let here : placeOf call < areasIn register = rw at (near register whole) in
         let size = area-length meter register (room meter register (near register whole) whole) in
         let bytes : areaOf meter (step call register .register) ≡ act call (areaOf meter register) .area = cc (own-area-after local register whole call here) in
         let reply : step call register .reply ≡ act call (areaOf meter register) .reply = cc (own-reply local register whole call here) in
-        rw (bytes, accepts at, reply) (call-good effects (areaOf meter register) l call size good)
-      where
-        accepts : placeOf call ≡ meter → isAccepted meter x ≡ eqb (numberOf (step call register .reply)) accepted
-        accepts at = accepted-here meter x (names-it meter call at)
+        rw (bytes, accepted-here meter x named, reply) (call-good effects (areaOf meter register) l call size good)
 
-    other : (placeOf call ≡ meter → ⊥) → Entered
-    other apart = rw (other-area local register whole call meter apart, accepted-there meter x (names-not meter call apart)) good
+    other : names meter call ≡ false → Entered
+    other unnamed = rw (unnamed-area local register whole call meter unnamed, accepted-there meter x unnamed) good
 
     pub step-good : Entered
-    step-good = by-test (eqb (placeOf call) meter) (λ h. own (eqb-true _ _ h)) (λ h. other (eqb-false _ _ h))
+    step-good = by-test (names meter call) own other
 
   pub run-good : (calls : List Call) (register : List ℕ) → Whole register → (l : Ledger) → Good (areaOf meter register) l → Good (areaOf meter (registerAfter calls register)) (ledgerAfter meter (exchanges calls register) l)
   unfolding registerAfter exchanges ledgerAfter

@@ -19,7 +19,7 @@ use Rattle.register.specs.Head.{noCarry}
 use Rattle.journal.specs.Journal.{journalOf, standing, withdrawn}
 use Rattle.journal.specs.Sound.{any, hasRead, daysRise, isSound}
 use Rattle.calls.specs.declared.call.Call.{Call}
-use Rattle.calls.specs.declared.call.Call.the-variants.{Enrol, Submit, Withdraw, Report as ReportCall, Fold}
+use Rattle.calls.specs.declared.call.Call.the-variants.{Enrol, Submit, Withdraw, Report as ReportCall, Fold, Trial}
 use Rattle.calls.specs.declared.call.Reply.{Reply}
 use Rattle.calls.specs.declared.call.Reply.the-variants.{Answered}
 use Rattle.calls.specs.Checks.{takenFlag}
@@ -133,4 +133,6 @@ pub record Effects : Type 0 where
       let after = act (Withdraw place day value) area in
       (numberOf (after .reply) ≡ accepted → ⊥) → after .area ≡ area
   pub report : (place : ℕ) (area : List ℕ) → act (ReportCall place) area .area ≡ area
+  pub trial : (place : ℕ) (s : Submission) (area : List ℕ) → act (Trial place s) area .area ≡ area
+  pub foretold : (place : ℕ) (s : Submission) (area : List ℕ) → act (Trial place s) area .reply ≡ act (Submit place s) area .reply
   pub size : (call : Call) (area : List ℕ) → length area ≡ areaBytes → length (act call area .area) ≡ areaBytes

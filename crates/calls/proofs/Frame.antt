@@ -17,7 +17,8 @@ use Rattle.calls.specs.declared.call.Call.{Call}
 use Rattle.calls.specs.declared.call.Reply.{Reply}
 use Rattle.calls.specs.Calls.{act, placeOf, refusalOf, isMisfit, isNoPlace, placeNumber, onArea, Done, done, step}
 use Rattle.calls.proofs.Bools.{both, by-test}
-use Rattle.calls.specs.Play.{Exchange, exchange, exchangeIf, exchanges, registerAfter, numberOf, mayChange, names, isPicked, picked, callsOf}
+use Rattle.calls.proofs.Tried.{untouched}
+use Rattle.calls.specs.Play.{Exchange, exchange, exchangeIf, exchanges, registerAfter, numberOf, mayChange, isTrial, names, isPicked, picked, callsOf}
 
 -- ---- the two laws of `act` that the frame rests on
 pub record Local : Type 0 where
@@ -98,6 +99,18 @@ module _ (local : Local) (register : List ℕ) (whole : Whole register) (call : 
       side (yes l) = inl l
       side (no l) = inr (omega arith)
 
+-- a call that names a meter is at its place, and one that does not leaves its bytes: it is at another, or a trial
+pub named-place : (meter : ℕ) (call : Call) → names meter call ≡ true → placeOf call ≡ meter
+unfolding names
+named-place meter call h = eqb-true _ _ (both (not (isTrial call)) (eqb (placeOf call) meter) h .1)
+
+pub unnamed-area : Local → (register : List ℕ) → Whole register → (call : Call) (meter : ℕ) → names meter call ≡ false → areaOf meter (step call register .register) ≡ areaOf meter register
+unfolding names
+unnamed-area local register whole call meter h =
+    by-test (isTrial call)
+    (λ t. ap (areaOf meter) (untouched call t register))
+    (λ t. other-area local register whole call meter (eqb-false _ _ (rw t at h)))
+
 -- a call that the areas of its place answer alike is answered alike by the registers
 module _ (local : Local) (A B : List ℕ) (wA : Whole A) (wB : Whole B) (call : Call) where
   pub same-answer : act call (areaOf (placeOf call) A) .reply ≡ act call (areaOf (placeOf call) B) .reply → step call A .reply ≡ step call B .reply
@@ -144,15 +157,15 @@ module _ (local : Local) (meter : ℕ) (near : Near meter) where
     answered = exchange call (step call A .reply)
 
     owned : isPicked meter answered ≡ true → placeOf call ≡ meter
-    unfolding isPicked names
-    owned h = eqb-true _ _ (both (eqb (placeOf call) meter) (mayChange (numberOf (step call A .reply))) h .0)
+    unfolding isPicked
+    owned h = named-place meter call (both (names meter call) (mayChange (numberOf (step call A .reply))) h .0)
 
     left-out : isPicked meter answered ≡ false → areaOf meter (step call A .register) ≡ areaOf meter A
-    unfolding isPicked names
+    unfolding isPicked
     left-out h =
-        by-test (eqb (placeOf call) meter)
-        (λ t. same-refused call (eqb-true _ _ t) A wA (rw t at h))
-        (λ t. other-area local A wA call meter (eqb-false _ _ t))
+        by-test (names meter call)
+        (λ t. same-refused call (named-place meter call t) A wA (rw t at h))
+        (unnamed-area local A wA call meter)
 
   picked-more : (b : Bool) (x : Exchange) (xs : List Exchange) → isPicked meter x ≡ b → picked meter (x ∷ xs) ≡ exchangeIf b x (picked meter xs)
   unfolding picked

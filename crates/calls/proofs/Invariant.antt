@@ -21,7 +21,7 @@ use Rattle.register.specs.Area.{areaBytes, allZero}
 use Rattle.journal.specs.Journal.{journalOf, firstValue}
 use Rattle.journal.specs.Sound.{any, hasRead, isSound}
 use Rattle.calls.specs.declared.call.Call.{Call}
-use Rattle.calls.specs.declared.call.Call.the-variants.{Enrol, Submit, Withdraw, Report as ReportCall, Fold}
+use Rattle.calls.specs.declared.call.Call.the-variants.{Enrol, Submit, Withdraw, Report as ReportCall, Fold, Trial}
 use Rattle.calls.specs.declared.call.Reply.{Reply}
 use Rattle.calls.specs.Checks.{takenFlag}
 use Rattle.calls.specs.Calls.{act, entryFor, submittedAdvance}
@@ -196,3 +196,7 @@ module _ (effects : Effects) (area : List ℕ) (l : Ledger) where
       by-answer (Fold place)
       (λ h. inr (fold-good place _ (act (Fold place) area .reply) (effects .fold place area size h) good))
       (λ h. unchanged-good _ (effects .fold-refused place area h) good)
+  call-good (Trial place s) size good =
+      by-answer (Trial place s)
+      (λ h. unchanged-good _ (effects .trial place s area) good)
+      (λ h. unchanged-good _ (effects .trial place s area) good)

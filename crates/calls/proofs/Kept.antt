@@ -13,12 +13,12 @@ use Rattle.terms.specs.Rule.{firstBroken}
 use Rattle.register.specs.Area.{areaBytes, allZero}
 use Rattle.journal.specs.Sound.{isSound}
 use Rattle.calls.specs.declared.call.Call.{Call}
-use Rattle.calls.specs.declared.call.Call.the-variants.{Enrol, Submit, Withdraw, Report as ReportCall, Fold}
+use Rattle.calls.specs.declared.call.Call.the-variants.{Enrol, Submit, Withdraw, Report as ReportCall, Fold, Trial}
 use Rattle.calls.specs.Checks.{enrolChecks, submitChecks, withdrawChecks, foldChecks}
 use Rattle.calls.specs.Calls.{isVolumeQuery, plateOf, enrolIn, submitIn, withdrawIn, foldIn, act}
 use Rattle.calls.specs.Kept.{isGood}
 use Rattle.calls.proofs.Bools.{right-or, by-test}
-use Rattle.calls.proofs.Acted.{enrolment, enrol-unchanged, submission, volume-query, submit-unchanged, withdrawal-in, withdraw-unchanged, report-unchanged, fold-in, fold-unchanged}
+use Rattle.calls.proofs.Acted.{enrolment, enrol-unchanged, submission, volume-query, submit-unchanged, withdrawal-in, withdraw-unchanged, report-unchanged, fold-in, fold-unchanged, trial-unchanged}
 
 pub record GoodArea (a : List ℕ) : Type 0 where
   pub size : length a ≡ areaBytes
@@ -71,3 +71,4 @@ keeps (Submit place read) a g = submit-keeps a g read
 keeps (Withdraw place day value) a g = withdraw-keeps a g day value
 keeps (ReportCall place) a g = good-same (report-unchanged a) g
 keeps (Fold place) a g = fold-keeps a g
+keeps (Trial place read) a g = good-same (trial-unchanged read a) g

@@ -29,10 +29,10 @@ use Rattle.register.proofs.Heads.{bare-carry}
 use Rattle.journal.specs.Journal.{Journal, journalOf, entriesTo, standing}
 use Rattle.journal.specs.Sound.{every, leastDials, mostDials, isPlate, holds, opens, isInRange, isRead, opensRight, isSound}
 use Rattle.calls.specs.declared.call.Call.{Call}
-use Rattle.calls.specs.declared.call.Call.the-variants.{Enrol, Submit, Withdraw, Report as ReportCall, Fold}
+use Rattle.calls.specs.declared.call.Call.the-variants.{Enrol, Submit, Withdraw, Report as ReportCall, Fold, Trial}
 use Rattle.calls.specs.declared.call.Reply.the-variants.{Answered}
 use Rattle.calls.specs.Checks.{enrolChecks, submitChecks, withdrawChecks, foldChecks}
-use Rattle.calls.specs.Calls.{act, Acted, plateOf, entryFor, enrolIn, submitIn, withdrawIn, withdrawnAnswer, isVolumeQuery, foldIn}
+use Rattle.calls.specs.Calls.{act, Acted, plateOf, entryFor, enrolIn, submitIn, withdrawIn, withdrawnAnswer, isVolumeQuery, foldIn, trialIn}
 use Rattle.calls.specs.Fold.{foldedJournal}
 use Rattle.calls.proofs.Bools.{both, by-test}
 use Rattle.journal.proofs.Bools.{neither}
@@ -43,7 +43,7 @@ use Rattle.calls.proofs.Clauses.{Clauses, clauses-of}
 use Rattle.calls.proofs.Shape.{sounds, entries-are, plate-of, head-there}
 use Rattle.calls.proofs.Accepted.{accepted-checked, query-passed}
 use Rattle.calls.proofs.Withdrawn.{can-withdraw, now-withdrawn, still-withdrawn}
-use Rattle.calls.proofs.Acted.{enrolment, enrol-unchanged, submission, volume-query, submit-unchanged, accepted-standing, accepted-withdrawn, query-standing, query-withdrawn, withdrawal-in, withdraw-unchanged, report-unchanged, can-fold, fold-in, fold-unchanged}
+use Rattle.calls.proofs.Acted.{enrolment, enrol-unchanged, submission, volume-query, submit-unchanged, accepted-standing, accepted-withdrawn, query-standing, query-withdrawn, withdrawal-in, withdraw-unchanged, report-unchanged, can-fold, fold-in, fold-unchanged, trial-unchanged}
 use Rattle.calls.proofs.FoldedArea.{stood, folded-standing, folded-withdrawn}
 use Rattle.calls.proofs.Carried.{none-uncarried}
 use Rattle.calls.proofs.Passed.{read-dated, read-later, read-fresh}
@@ -299,6 +299,7 @@ size-after (Fold place) area size =
     by-test (eqb (foldNumber area) accepted)
     (λ h. fold-in area size (eqb-true _ _ h) .size)
     (λ h. kept-size (fold-unchanged area h) size)
+size-after (Trial place s) area size = kept-size (trial-unchanged s area) size
 
 bare-head : (area : List ℕ) → journalOf area .head .carried ≡ false → journalOf area .head .carry ≡ noCarry
 unfolding journalOf
@@ -312,7 +313,7 @@ zero-unfolded area zero =
     rw none
 
 pub effects : Effects
-unfolding act
+unfolding act trialIn
 effects =
     record {
       apart = λ area zero sound. not-zero area sound zero;
@@ -332,6 +333,8 @@ effects =
       submit-refused = λ place s area h. submit-left s area h;
       withdraw-refused = λ place day value area h. withdraw-unchanged day value area (by-number _ (withdraw-number day value area) h);
       report = λ place area. report-unchanged area;
+      trial = λ place s area. trial-unchanged s area;
+      foretold = λ place s area. refl;
       size = size-after;
     }
 
@@ -346,6 +349,7 @@ unchanged (Submit place s) area h = effects .submit-refused place s area h
 unchanged (Withdraw place day value) area h = effects .withdraw-refused place day value area (never-accepted _ h)
 unchanged (ReportCall place) area h = effects .report place area
 unchanged (Fold place) area h = effects .fold-refused place area (never-accepted _ h)
+unchanged (Trial place s) area h = effects .trial place s area
 
 pub local : Local
 local = record { size = effects .size; unchanged = unchanged }

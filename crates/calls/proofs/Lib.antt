@@ -19,6 +19,7 @@ pub mod Passed
 pub mod Accepted
 pub mod Acted
 pub mod Kept
+pub mod Tried
 pub mod Frame
 pub mod Totals
 pub mod Effects
@@ -28,6 +29,7 @@ pub mod Unenrolled
 pub mod Chains
 pub mod Known
 pub mod KeptAll
+pub mod Trials
 pub mod Refusals
 pub mod ReportKept
 pub mod KeptOut

@@ -18,9 +18,9 @@ use Rattle.register.proofs.Back.{entry-below, entry-above}
 use Rattle.journal.specs.Journal.{journalOf, kept}
 use Rattle.journal.specs.Numbers.{areaRules}
 use Rattle.calls.specs.declared.call.Call.{Call}
-use Rattle.calls.specs.declared.call.Call.the-variants.{Enrol, Submit, Withdraw, Report as ReportCall, Fold}
+use Rattle.calls.specs.declared.call.Call.the-variants.{Enrol, Submit, Withdraw, Report as ReportCall, Fold, Trial}
 use Rattle.calls.specs.Checks.{takenFlag, enrolChecks, submitChecks, withdrawRules, withdrawChecks, reportChecks, foldRules, foldChecks}
-use Rattle.calls.specs.Calls.{isVolumeQuery, plateOf, written, enrolIn, submitIn, withdrawIn, reportIn, foldIn, entryFor, act, placeOf, refusalOf, isMisfit, isNoPlace, placeNumber, onArea, Done, done, step}
+use Rattle.calls.specs.Calls.{isVolumeQuery, plateOf, written, enrolIn, submitIn, withdrawIn, reportIn, foldIn, trialIn, entryFor, act, placeOf, refusalOf, isMisfit, isNoPlace, placeNumber, onArea, Done, done, step}
 use Rattle.journal.specs.Total.{reportOf}
 use Rattle.calls.specs.Play.{numberOf}
 use Rattle.calls.specs.DemandOne.{HasZeros, StoresHeld, Stores, CallHolds, DemandOne}
@@ -28,7 +28,7 @@ use Rattle.calls.proofs.Bools.{either-of, by-test}
 use Rattle.calls.proofs.Broken.{haveOthers, no-number, unbroken}
 use Rattle.calls.proofs.Acted.{query-refused, query-held}
 use Rattle.calls.proofs.Frame.{Whole, room, own-reply, own-area-after, step-whole, other-area}
-use Rattle.calls.proofs.Known.{local, enrol-number, submit-number, withdraw-number, fold-number}
+use Rattle.calls.proofs.Known.{local, effects, enrol-number, submit-number, withdraw-number, fold-number}
 
 -- ---- a refusal, in the form of any call's answer
 pub refusal-number : (call : Call) (number : ℕ) → numberOf (refusalOf call number) ≡ number
@@ -38,6 +38,7 @@ refusal-number (Submit place s) number = refl
 refusal-number (Withdraw place day value) number = refl
 refusal-number (ReportCall place) number = refl
 refusal-number (Fold place) number = refl
+refusal-number (Trial place s) number = refl
 
 refusal-zeros : (call : Call) (number : ℕ) → HasZeros (refusalOf call number)
 unfolding HasZeros refusalOf
@@ -46,6 +47,7 @@ refusal-zeros (Submit place s) number = (refl, refl)
 refusal-zeros (Withdraw place day value) number = (refl, refl)
 refusal-zeros (ReportCall place) number = (refl, refl, refl)
 refusal-zeros (Fold place) number = (refl, refl)
+refusal-zeros (Trial place s) number = (refl, refl)
 
 -- ---- a call on an area: any answer but 0 is a refusal
 report-number : (area : List ℕ) → numberOf (reportIn area .reply) ≡ firstBroken (reportChecks area)
@@ -55,15 +57,20 @@ report-number area =
     (λ h. rw h (sym (eqb-true _ _ h)))
     (λ h. rw h)
 
-act-zeros : (call : Call) (area : List ℕ) → (numberOf (act call area .reply) ≡ accepted → ⊥) → HasZeros (act call area .reply)
-unfolding act enrolIn submitIn withdrawIn reportIn foldIn HasZeros
-act-zeros (Enrol place profile dials capacity) area h = rw (ne-eqb _ accepted (λ e. h (enrol-number (plateOf profile dials capacity) area ∙ e))) (refl, refl)
-act-zeros (Submit place s) area h =
+submit-zeros : (s : Submission) (area : List ℕ) → (numberOf (submitIn s area .reply) ≡ accepted → ⊥) → HasZeros (submitIn s area .reply)
+unfolding submitIn HasZeros
+submit-zeros s area h =
     rw (ne-eqb _ accepted (λ e. h (submit-number s area ∙ e)))
     (by-test (isVolumeQuery (firstBroken (submitChecks s area))) (λ q. rw q (refl, refl)) (λ q. rw q (refl, refl)))
+
+act-zeros : (call : Call) (area : List ℕ) → (numberOf (act call area .reply) ≡ accepted → ⊥) → HasZeros (act call area .reply)
+unfolding act enrolIn withdrawIn reportIn foldIn trialIn HasZeros
+act-zeros (Enrol place profile dials capacity) area h = rw (ne-eqb _ accepted (λ e. h (enrol-number (plateOf profile dials capacity) area ∙ e))) (refl, refl)
+act-zeros (Submit place s) area h = submit-zeros s area h
 act-zeros (Withdraw place day value) area h = rw (ne-eqb _ accepted (λ e. h (withdraw-number day value area ∙ e))) (refl, refl)
 act-zeros (ReportCall place) area h = rw (ne-eqb _ accepted (λ e. h (report-number area ∙ e))) (refl, refl, refl)
 act-zeros (Fold place) area h = rw (ne-eqb _ accepted (λ e. h (fold-number area ∙ e))) (refl, refl)
+act-zeros (Trial place s) area h = submit-zeros s area h
 
 -- ---- 19 and 20 are numbers of a submission alone: the rules of the other calls have other numbers
 no-query : (rs : List Rule) → haveOthers low rs ≡ true → haveOthers high rs ≡ true → isVolumeQuery (firstBroken rs) ≡ true → ⊥
@@ -101,6 +108,7 @@ act-stores (Submit place s) area size q = stores-held s area size (rw (submit-nu
 act-stores (Withdraw place day value) area size q = no-query (withdrawChecks day value area) refl refl (rw (withdraw-number day value area) at q)
 act-stores (ReportCall place) area size q = no-query (reportChecks area) refl refl (rw (report-number area) at q)
 act-stores (Fold place) area size q = no-query (foldChecks area) refl refl (rw (fold-number area) at q)
+act-stores (Trial place s) area size q = effects .trial place s area
 
 -- ---- the claim, for a place that is refused and for one that the register has
 module _ (call : Call) (register : List ℕ) where

@@ -4,7 +4,7 @@ use mathlib.Core.Bool.{Bool, true, false, _&&_, _||_}
 use mathlib.Core.List.{List, [], _∷_}
 use Prim.Native.Nat.{ℕ, _<_}
 use native.Mathlib.Omega.{arith}
-use borrow.Author.Tests.{eqb-true, eqb-false, eq-eqb, ne-eqb}
+use borrow.Author.Tests.{eqb-true, eqb-false}
 use lib.Dec.{eqb}
 use lib.IntN.{pos}
 use lib.ListN.{length}
@@ -12,15 +12,16 @@ use Rattle.terms.specs.Number.{accepted, noMeter}
 use Rattle.register.specs.Area.{areaBytes, areasIn, areaOf, allZero}
 use Rattle.register.proofs.Areas.{area-length}
 use Rattle.journal.specs.Numbers.{areaRules}
+use Rattle.terms.specs.declared.submission.Submission.{Submission}
 use Rattle.calls.specs.declared.call.Call.{Call}
-use Rattle.calls.specs.declared.call.Call.the-variants.{Enrol, Submit, Withdraw, Report as ReportCall, Fold}
+use Rattle.calls.specs.declared.call.Call.the-variants.{Enrol, Submit, Withdraw, Report as ReportCall, Fold, Trial}
 use Rattle.calls.specs.Checks.{reportChecks}
 use Rattle.calls.specs.Calls.{reportIn, act, placeOf, step}
 use Rattle.calls.specs.Play.{Exchange, exchange, exchanges, numberOf, mayChange, names}
 use Rattle.calls.specs.Ledger.{Ledger, emptyLedger, isAccepted, ledgerAfter, ledgerOf, hasAccepted, isEnrolment, hasEnrolment}
 use Rattle.calls.proofs.Bools.{together, or-false, by-test}
 use Rattle.journal.proofs.Bools.{neither}
-use Rattle.calls.proofs.Frame.{Local, Whole, Near, room, own-reply, own-area-after, step-whole, other-area}
+use Rattle.calls.proofs.Frame.{Local, Whole, Near, room, own-reply, own-area-after, step-whole, named-place, unnamed-area}
 use Rattle.calls.proofs.Effects.{Effects}
 
 -- ---- a call on an area that is all zero
@@ -29,12 +30,16 @@ unfolding reportIn reportChecks areaRules numberOf
 report-number area zero = rw zero
 
 module _ (effects : Effects) (area : List ℕ) (size : length area ≡ areaBytes) (zero : allZero area ≡ true) where
+  never-read {ℓ} : {X : Type ℓ} (place : ℕ) (s : Submission) → numberOf (act (Submit place s) area .reply) ≡ accepted → X
+  never-read place s h = absurd (effects .apart area zero (effects .submit place s area size h .was-sound))
+
   never {ℓ} : {X : Type ℓ} (call : Call) → isEnrolment call ≡ false → numberOf (act call area .reply) ≡ accepted → X
   unfolding act isEnrolment
   never (Enrol place profile dials capacity) other h = absurd (let z : _≡_ {A = ℕ} 0 1 = cc in let f : ⊥ = omega arith in f)
-  never (Submit place s) other h = absurd (effects .apart area zero (effects .submit place s area size h .was-sound))
+  never (Submit place s) other h = never-read place s h
   never (Withdraw place day value) other h = absurd (effects .apart area zero (effects .withdraw place day value area size h .was-sound))
   never (Fold place) other h = absurd (effects .apart area zero (effects .fold place area size h .was-sound))
+  never (Trial place s) other h = never-read place s (rw (effects .foretold place s area) at h)
   never (ReportCall place) other h = absurd (let z : noMeter ≡ accepted = sym (report-number area zero) ∙ h in let f : ⊥ = omega arith in f)
 
   -- what is not accepted leaves it
@@ -47,6 +52,7 @@ module _ (effects : Effects) (area : List ℕ) (size : length area ≡ areaBytes
   stays (Withdraw place day value) h = effects .withdraw-refused place day value area h
   stays (ReportCall place) h = effects .report place area
   stays (Fold place) h = effects .fold-refused place area h
+  stays (Trial place s) h = effects .trial place s area
 
 -- ---- a run
 not-both : (x y z : Bool) → x && y || z ≡ false → (x ≡ true → y ≡ false) × (z ≡ false)
@@ -65,25 +71,25 @@ module _ (local : Local) (effects : Effects) (meter : ℕ) (near : Near meter) w
     abbrev Left : Type 0
     Left = (isAccepted meter x ≡ false) × (allZero (areaOf meter (step call register .register)) ≡ true)
 
-    own : placeOf call ≡ meter → (isAccepted meter x ≡ true → isEnrolment call ≡ false) → Left
-    unfolding isAccepted names
-    own at other =
+    own : names meter call ≡ true → (isAccepted meter x ≡ true → isEnrolment call ≡ false) → Left
+    unfolding isAccepted
+    own named other =
+        let at = named-place meter call named in
         let here : placeOf call < areasIn register = rw at (near register whole) in
         let size = area-length meter register (room meter register (near register whole) whole) in
         let bytes : areaOf meter (step call register .register) ≡ act call area .area = cc (own-area-after local register whole call here) in
         let reply : step call register .reply ≡ act call area .reply = cc (own-reply local register whole call here) in
-        let named = eq-eqb (placeOf call) meter at in
         let same : numberOf (step call register .reply) ≡ numberOf (act call area .reply) = ap numberOf reply in
         by-test (eqb (numberOf (step call register .reply)) accepted)
         (λ h. never effects area size zero call (other (together named h)) (sym same ∙ eqb-true _ _ h))
         (λ h. (rw named h, ap allZero (bytes ∙ stays effects area size zero call (λ n. eqb-false _ _ h (same ∙ n))) ∙ zero))
 
-    elsewhere : (placeOf call ≡ meter → ⊥) → Left
-    unfolding isAccepted names
-    elsewhere apart = (rw (ne-eqb (placeOf call) meter apart), ap allZero (other-area local register whole call meter apart) ∙ zero)
+    elsewhere : names meter call ≡ false → Left
+    unfolding isAccepted
+    elsewhere unnamed = (rw unnamed, ap allZero (unnamed-area local register whole call meter unnamed) ∙ zero)
 
     left : (isAccepted meter x ≡ true → isEnrolment call ≡ false) → Left
-    left other = by-test (eqb (placeOf call) meter) (λ h. own (eqb-true _ _ h) other) (λ h. elsewhere (eqb-false _ _ h))
+    left other = by-test (names meter call) (λ h. own h other) elsewhere
 
   none-accepted : (calls : List Call) (register : List ℕ) → Whole register → allZero (areaOf meter register) ≡ true → hasEnrolment meter (exchanges calls register) ≡ false → hasAccepted meter (exchanges calls register) ≡ false
   unfolding exchanges hasEnrolment hasAccepted

@@ -22,7 +22,7 @@ use Rattle.register.specs.Entries.{putEntry, zeroEntry}
 use Rattle.register.specs.Head.{noCarry, putHead, entryOffset}
 use Rattle.journal.specs.Journal.{Journal, journalOf, entryCount, standing, kept, heldOf, isThere, newestAt, areaFor}
 use Rattle.calls.specs.declared.call.Call.{Call}
-use Rattle.calls.specs.declared.call.Call.the-variants.{Enrol, Submit, Withdraw, Report as ReportCall, Fold}
+use Rattle.calls.specs.declared.call.Call.the-variants.{Enrol, Submit, Withdraw, Report as ReportCall, Fold, Trial}
 use Rattle.calls.specs.declared.call.Reply.{Reply}
 use Rattle.calls.specs.declared.call.Reply.the-variants.{Answered, Reported}
 use Rattle.calls.specs.Checks.{submitChecks, withdrawChecks, enrolChecks, reportChecks, foldChecks, takenFlag}
@@ -131,6 +131,11 @@ foldIn area =
     (acted (Answered acceptance) (areaFor (foldedJournal (journalOf area))))
     (refused (firstBroken (foldChecks area)) area)
 
+-- ---- 02, 7: "A trial takes the same arguments as a submission and gives the answer that the submission would give on a copy of the register.
+-- The register given is not written."
+unfoldable pub trialIn : Submission → List ℕ → Acted
+trialIn s area = acted (submitIn s area .reply) area
+
 -- ---- a call on the area that it names
 unfoldable pub act : Call → List ℕ → Acted
 act (Enrol place profile dials capacity) area = enrolIn (plateOf profile dials capacity) area
@@ -138,6 +143,7 @@ act (Submit place read) area = submitIn read area
 act (Withdraw place day value) area = withdrawIn day value area
 act (ReportCall place) area = reportIn area
 act (Fold place) area = foldIn area
+act (Trial place read) area = trialIn read area
 
 unfoldable pub placeOf : Call → ℕ
 placeOf (Enrol place profile dials capacity) = place
@@ -145,6 +151,7 @@ placeOf (Submit place read) = place
 placeOf (Withdraw place day value) = place
 placeOf (ReportCall place) = place
 placeOf (Fold place) = place
+placeOf (Trial place read) = place
 
 -- a refusal, in the form of the call's answer
 unfoldable pub refusalOf : Call → ℕ → Reply
@@ -153,6 +160,7 @@ refusalOf (Submit place read) number = Answered (refusal number)
 refusalOf (Withdraw place day value) number = Answered (refusal number)
 refusalOf (ReportCall place) number = Reported (refusedReport number)
 refusalOf (Fold place) number = Answered (refusal number)
+refusalOf (Trial place read) number = Answered (refusal number)
 
 -- ---- a call on the register: what it answers, and the register after it
 pub record Done : Type 0 where

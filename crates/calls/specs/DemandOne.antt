@@ -13,7 +13,7 @@ use Rattle.register.specs.Area.{areaOf}
 use Rattle.register.specs.Head.{entryOffset}
 use Rattle.journal.specs.Journal.{journalOf, kept, heldOf}
 use Rattle.calls.specs.declared.call.Call.{Call}
-use Rattle.calls.specs.declared.call.Call.the-variants.{Enrol, Submit, Withdraw, Report as ReportCall, Fold}
+use Rattle.calls.specs.declared.call.Call.the-variants.{Enrol, Submit, Withdraw, Report as ReportCall, Fold, Trial}
 use Rattle.calls.specs.declared.call.Reply.{Reply}
 use Rattle.calls.specs.declared.call.Reply.the-variants.{Answered, Reported}
 use Rattle.calls.specs.Checks.{takenFlag}
@@ -31,13 +31,14 @@ pub record StoresHeld (s : Submission) (before after : List ℕ) : Type 0 where
   pub below : take (entryOffset before (kept (journalOf before .entries))) after ≡ take (entryOffset before (kept (journalOf before .entries))) before
   pub above : drop (entryOffset before (suc (kept (journalOf before .entries)))) after ≡ drop (entryOffset before (suc (kept (journalOf before .entries)))) before
 
--- only a submission is answered 19 or 20
+-- only a submission is answered 19 or 20, and a trial of one, which stores nothing
 unfoldable pub Stores : Call → List ℕ → List ℕ → Type 0
 Stores (Submit place read) before after = StoresHeld read before after
 Stores (Enrol place profile dials capacity) before after = ⊥
 Stores (Withdraw place day value) before after = ⊥
 Stores (ReportCall place) before after = ⊥
 Stores (Fold place) before after = ⊥
+Stores (Trial place read) before after = after ≡ before
 
 -- what holds of one call
 module _ (call : Call) (register : List ℕ) where

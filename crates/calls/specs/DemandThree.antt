@@ -55,6 +55,6 @@ pub record RunsHold (meter : ℕ) (calls : List Call) : Type 0 where
   pub inB : RunHolds meter (runB meter calls) (registerAfter (callsB meter calls) zeroRegister)
 
 -- DEMAND 3: "This holds for every list of enrolments, submissions, withdrawals and reports, refused ones included, and for every meter."; 02, 2:
--- folds are in the list too
+-- folds are in the list too; 02, 7: and trials, anywhere
 unfoldable pub DemandThree : Type 0
 DemandThree = (meter : ℕ) → meter < areasIn zeroRegister → (calls : List Call) → RunsHold meter calls

@@ -8,7 +8,7 @@ use lib.ListN.{length, take}
 use Rattle.terms.specs.declared.answer.Answer.{Answer}
 use Rattle.terms.specs.Number.{accepted}
 use Rattle.calls.specs.declared.call.Call.{Call}
-use Rattle.calls.specs.declared.call.Call.the-variants.{Enrol, Submit, Withdraw, Report as ReportCall, Fold}
+use Rattle.calls.specs.declared.call.Call.the-variants.{Enrol, Submit, Withdraw, Report as ReportCall, Fold, Trial}
 use Rattle.calls.specs.declared.call.Reply.{Reply}
 use Rattle.calls.specs.declared.call.Reply.the-variants.{Answered, Reported}
 use Rattle.calls.specs.Fold.{readsKept}
@@ -95,6 +95,7 @@ entered (Fold place) reply l =
       withdrawn = l .withdrawn;
       folded = length (l .standing) - readsKept;
     }
+entered (Trial place s) reply l = l
 
 -- "Accepted means answered 0", here at this meter
 unfoldable pub isAccepted : ℕ → Exchange → Bool
@@ -120,6 +121,7 @@ isEnrolment (Submit place read) = false
 isEnrolment (Withdraw place day value) = false
 isEnrolment (ReportCall place) = false
 isEnrolment (Fold place) = false
+isEnrolment (Trial place read) = false
 
 unfoldable pub hasEnrolment : ℕ → List Exchange → Bool
 hasEnrolment meter [] = false

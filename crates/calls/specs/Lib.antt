@@ -7,5 +7,6 @@ pub mod DemandOne
 pub mod Ledger
 pub mod DemandThree
 pub mod FoldKeeps
+pub mod Trials
 pub mod Examples
 pub mod ProfileExamples

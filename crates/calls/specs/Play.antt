@@ -1,5 +1,5 @@
 -- 00, demand 3, and 01, The two runs of demand 3: a list of calls played on a register, "each call on what the last one left".
-use mathlib.Core.Bool.{Bool, true, false, _&&_, _||_}
+use mathlib.Core.Bool.{Bool, true, false, not, _&&_, _||_}
 use mathlib.Core.List.{List, [], _∷_}
 use Prim.Native.Nat.{ℕ}
 use lib.Dec.{eqb}
@@ -7,6 +7,7 @@ use lib.ListN.{replicate}
 use Rattle.terms.specs.Number.{accepted, low, high}
 use Rattle.register.specs.Area.{registerBytes}
 use Rattle.calls.specs.declared.call.Call.{Call}
+use Rattle.calls.specs.declared.call.Call.the-variants.{Enrol, Submit, Withdraw, Report as ReportCall, Fold, Trial}
 use Rattle.calls.specs.declared.call.Reply.{Reply}
 use Rattle.calls.specs.declared.call.Reply.the-variants.{Answered, Reported}
 use Rattle.calls.specs.Calls.{placeOf, step}
@@ -37,9 +38,18 @@ unfoldable pub numberOf : Reply → ℕ
 numberOf (Answered a) = a .number
 numberOf (Reported r) = r .number
 
--- "a call names it by its place"
+-- 02, 7: a trial stands "between two calls", and is none on the meter at its place
+unfoldable pub isTrial : Call → Bool
+isTrial (Enrol place profile dials capacity) = false
+isTrial (Submit place read) = false
+isTrial (Withdraw place day value) = false
+isTrial (ReportCall place) = false
+isTrial (Fold place) = false
+isTrial (Trial place read) = true
+
+-- "a call names it by its place", but for a trial
 unfoldable pub names : ℕ → Call → Bool
-names meter call = eqb (placeOf call) meter
+names meter call = not (isTrial call) && eqb (placeOf call) meter
 
 -- 0, 19 and 20: the numbers that may come with a change
 unfoldable pub mayChange : ℕ → Bool

@@ -26,6 +26,11 @@ pub enum Call {
     Fold {
         place: u16,
     },
+    // No sheet holds one: it is asked between two calls.
+    Trial {
+        place: u16,
+        read: Submission,
+    },
 }
 
 pub enum Reply {

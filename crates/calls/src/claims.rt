@@ -5,6 +5,7 @@ ghost use Rattle.calls.specs.Examples.{ExamplesHold};
 ghost use Rattle.calls.specs.FoldKeeps.{FoldsKeepReports, WithdrawnStayOut};
 ghost use Rattle.calls.specs.Kept.{CallsKeepAreas};
 ghost use Rattle.calls.specs.ProfileExamples.{ProfileExamplesHold};
+ghost use Rattle.calls.specs.Trials.{TrialsForetell, TrialsAlterNothing};
 
 // No call damages an area: a register whose areas are all zero or sound stays so.
 pub fn calls_keep_areas()
@@ -29,6 +30,16 @@ pub fn folds_keep_reports()
 // A read that was withdrawn is refused when it is sent again, after every list of calls.
 pub fn withdrawn_stay_out()
     ensures { λ _. ⌜ WithdrawnStayOut ⌝ }
+{}
+
+// A trial is answered as the submission would be and writes nothing, on every register.
+pub fn trials_foretell()
+    ensures { λ _. ⌜ TrialsForetell ⌝ }
+{}
+
+// Trials alter no byte, no other answer and neither run of demand 3, wherever they stand in a list of calls.
+pub fn trials_alter_nothing()
+    ensures { λ _. ⌜ TrialsAlterNothing ⌝ }
 {}
 
 // Examples of what the definitions of demand 3 and of a fold mean.

@@ -33,13 +33,14 @@ toldKind Unknown dials value a t = t
 unfoldable pub toldOf : ℕ → ℕ → ℕ → ℕ → ℕ → ℤ → Tally → Tally
 toldOf kind dials value number flag advance t = toldKind (kindOf kind) dials value (answer number flag advance) t
 
--- ---- what there is to tell of a call
-unfoldable pub formOf : Call → Form
-formOf (call.Enrol place profile dials capacity) = Enrol profile
-formOf (call.Submit place s) = Submit
-formOf (call.Withdraw place day value) = Withdraw
-formOf (call.Report place) = Report
-formOf (call.Fold place) = Fold
+-- ---- what there is to tell of a call. A trial has no kind: 0, which is none, tells of nothing.
+unfoldable pub kindTold : Call → ℕ
+kindTold (call.Enrol place profile dials capacity) = kindByte (Enrol profile)
+kindTold (call.Submit place s) = kindByte Submit
+kindTold (call.Withdraw place day value) = kindByte Withdraw
+kindTold (call.Report place) = kindByte Report
+kindTold (call.Fold place) = kindByte Fold
+kindTold (call.Trial place s) = 0
 
 unfoldable pub dialsOf : Call → ℕ
 dialsOf (call.Enrol place profile dials capacity) = dials
@@ -47,6 +48,7 @@ dialsOf (call.Submit place s) = 0
 dialsOf (call.Withdraw place day value) = 0
 dialsOf (call.Report place) = 0
 dialsOf (call.Fold place) = 0
+dialsOf (call.Trial place s) = 0
 
 unfoldable pub valueOf : Call → ℕ
 valueOf (call.Enrol place profile dials capacity) = 0
@@ -54,10 +56,11 @@ valueOf (call.Submit place s) = s .value
 valueOf (call.Withdraw place day value) = value
 valueOf (call.Report place) = 0
 valueOf (call.Fold place) = 0
+valueOf (call.Trial place s) = s .value
 
 -- THE CLAIM: that is enough. A call so told, with its answer, changes a tally as the call itself does, so that what is claimed of a tally that is
 -- kept holds of one that a program in C keeps.
 unfoldable pub ToldIsEnough : Type 0
 ToldIsEnough =
     (c : Call) (a : Answer) (t : Tally)
-    → toldOf (kindByte (formOf c)) (dialsOf c) (valueOf c) (a .number) (a .flag) (a .advance) t ≡ tallyAfter c (Answered a) t
+    → toldOf (kindTold c) (dialsOf c) (valueOf c) (a .number) (a .flag) (a .advance) t ≡ tallyAfter c (Answered a) t

@@ -85,6 +85,37 @@ pub extern "C" fn necktureen_submit(
     a.number
 }
 
+// What a submission would be answered: the register is lent for reading alone.
+#[no_mangle]
+pub extern "C" fn necktureen_trial(
+    register: &[u8],
+    place: u16,
+    submitted: u16,
+    day: u16,
+    value: u32,
+    letter: u8,
+    indicator: u8,
+    reread: u8,
+    flag: &mut u8,
+    advance: &mut i64,
+) -> u8
+    ensures { λ r. ⌜ Reply.Answered (answer r (now (flag .exit)) (now (advance .exit))) ≡ step (Call.Submit place (record { submitted = submitted; day = day; value = value; letter = letter; indicator = indicator; reread = reread })) (now (register .entry)) .reply ⌝ }
+{
+    let s = Submission {
+        submitted,
+        day,
+        value,
+        letter,
+        indicator,
+        reread,
+    };
+    let a = submit::trial::trial(register, place, s);
+    let moved = a.advance;
+    *flag = a.flag;
+    *advance = moved;
+    a.number
+}
+
 #[no_mangle]
 pub extern "C" fn necktureen_withdraw(
     register: &mut [u8],

@@ -105,3 +105,10 @@ module _ (call : Call) (register : List ℕ) where
     keeps {reply} h =
         let same : acted reply (areaOf p register) ≡ act call (areaOf p register) = rw (lent-is p register e) at h in
         rw (acts, ← same, own-area p register)
+
+    -- what the area answers is the call's answer
+    pub answers : {reply : Reply} → reply ≡ act call (midOf start (start + areaBytes - start) register) .reply → reply ≡ step call register .reply
+    unfolding onArea
+    answers {reply} h =
+        let same : reply ≡ act call (areaOf p register) .reply = rw (lent-is p register e) at h in
+        rw acts same

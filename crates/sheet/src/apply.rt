@@ -1,4 +1,4 @@
-// A call of a sheet, carried out.
+// A call, carried out. A sheet holds every kind of call but a trial.
 ghost use mathlib.Core.Path.{_≡_};
 ghost use Rattle.calls.specs.Calls.{done, step};
 use calls::call::Call;
@@ -8,6 +8,7 @@ use meter::enrol::enrol;
 use meter::report::report;
 use meter::withdraw::withdraw;
 use submit::submit::submit;
+use submit::trial::trial;
 
 pub fn apply(register: &mut [u8], call: Call) -> Reply
     ensures { λ r. ⌜ done r (now (register .exit)) ≡ step call (now (register .entry)) ⌝ }
@@ -28,5 +29,6 @@ pub fn apply(register: &mut [u8], call: Call) -> Reply
         )),
         Call::Report { place } => Reply::Reported(report(register, place)),
         Call::Fold { place } => Reply::Answered(fold(register, place)),
+        Call::Trial { place, read } => Reply::Answered(trial(register, place, read)),
     }
 }

@@ -1,5 +1,5 @@
 -- What the call answers and leaves is what follows from the decision.
-use mathlib.Core.Path.{_≡_, refl}
+use mathlib.Core.Path.{_≡_, refl, ap}
 use mathlib.Core.Bool.{Bool, true, false}
 use mathlib.Core.List.{List}
 use Prim.Native.Nat.{ℕ}
@@ -10,7 +10,7 @@ use Rattle.terms.specs.Rule.{firstBroken}
 use Rattle.register.specs.Head.{entryOffset}
 use Rattle.journal.specs.Journal.{journalOf}
 use Rattle.calls.specs.declared.call.Reply.the-variants.{Answered}
-use Rattle.calls.specs.Calls.{acted, isVolumeQuery, written, submitIn}
+use Rattle.calls.specs.Calls.{Acted, acted, isVolumeQuery, written, submitIn}
 use Rattle.calls.specs.Checks.{submitChecks}
 use Rattle.submit.specs.Inner.Decision.{decided, decidedIn, decisionOf, storedBy, answerOf}
 
@@ -26,3 +26,6 @@ module _ (s : Submission) (area : List ℕ) where
 
   pub follows : submitIn s area ≡ acted (Answered (answerOf (decisionOf s area))) (storedBy (decisionOf s area) s area)
   follows = by-number (eqb number accepted) (isVolumeQuery number) refl refl
+
+  pub answers-so : submitIn s area .reply ≡ Answered (answerOf (decisionOf s area))
+  answers-so = ap (λ (a : Acted). a .reply) follows

@@ -4,3 +4,4 @@ pub mod decide;
 mod order;
 mod same_day;
 pub mod submit;
+pub mod trial;

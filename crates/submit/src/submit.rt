@@ -47,7 +47,7 @@ fn store(area: &mut [u8], s: Submission, d: Decision)
 }
 
 // Every number but 0 comes with zeros in the other fields.
-fn answer(d: Decision) -> Answer
+pub(crate) fn answer(d: Decision) -> Answer
     ensures { λ r. ⌜ r ≡ answerOf d ⌝ }
 {
     if d.number == Number::ACCEPTED {

@@ -20,7 +20,7 @@ use Rattle.register.specs.Area.{areaBytes, allZero}
 use Rattle.journal.specs.Journal.{journalOf, dayOf}
 use Rattle.journal.specs.Sound.{daysRise, isSound}
 use Rattle.calls.specs.declared.call.Call.{Call}
-use Rattle.calls.specs.declared.call.Call.the-variants.{Enrol, Submit, Withdraw, Report as ReportCall, Fold}
+use Rattle.calls.specs.declared.call.Call.the-variants.{Enrol, Submit, Withdraw, Report as ReportCall, Fold, Trial}
 use Rattle.calls.specs.declared.call.Reply.{Reply}
 use Rattle.calls.specs.Calls.{act, entryFor}
 use Rattle.calls.specs.Checks.{takenFlag}
@@ -184,3 +184,7 @@ module _ (area : List ℕ) (t : Tally) (kept : Kept area t) where
       by-answer (Fold place)
       (λ h. inr (fold-kept _ (effects .fold place area size h)))
       (λ h. unchanged _ (effects .fold-refused place area h))
+  call-kept (Trial place s) size dated =
+      by-answer (Trial place s)
+      (λ h. unchanged _ (effects .trial place s area))
+      (λ h. unchanged _ (effects .trial place s area))

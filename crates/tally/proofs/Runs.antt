@@ -4,8 +4,8 @@ use mathlib.Core.Logic.{inl, ⊎-elim}
 use mathlib.Core.Bool.{true, false, cond}
 use mathlib.Core.List.{List, [], _∷_}
 use Prim.Native.Nat.{ℕ, _≤_, _<_}
-use borrow.Author.Tests.{eqb-true, eqb-false, leb-true, leb-false}
-use lib.Dec.{eqb, leb}
+use borrow.Author.Tests.{leb-true, leb-false}
+use lib.Dec.{leb}
 use Rattle.terms.specs.Number.{noMeter}
 use Rattle.register.specs.Area.{areasIn, areaOf}
 use Rattle.register.proofs.Areas.{same-areas, area-length}
@@ -15,7 +15,7 @@ use Rattle.calls.specs.declared.call.Reply.the-variants.{Reported}
 use Rattle.calls.specs.Calls.{act, reportIn, placeOf, refusalOf, Done, step}
 use Rattle.calls.specs.Play.{exchanges, registerAfter, zeroRegister, numberOf, names}
 use Rattle.calls.proofs.Bools.{both, by-test}
-use Rattle.calls.proofs.Frame.{Whole, Near, near-all, room, own-reply, own-area-after, step-whole, other-area, refuses}
+use Rattle.calls.proofs.Frame.{Whole, Near, near-all, room, own-reply, own-area-after, step-whole, named-place, unnamed-area, refuses}
 use Rattle.calls.proofs.Chains.{run-whole, zero-whole, zero-area}
 use Rattle.calls.proofs.Known.{local}
 use Rattle.calls.proofs.Refusals.{refusal-number}
@@ -44,20 +44,20 @@ module _ (meter : ℕ) (near : Near meter) where
     abbrev Changed : Type 0
     Changed = Kept (areaOf meter (step call register .register)) (changed meter call register t)
 
-    own : placeOf call ≡ meter → names meter call ≡ true → Changed
-    own at named =
+    own : names meter call ≡ true → Changed
+    own named =
+        let at = named-place meter call named in
         let here : placeOf call < areasIn register = rw at (near register whole) in
         let size = area-length meter register (room meter register (near register whole) whole) in
         let bytes : areaOf meter (step call register .register) ≡ act call (areaOf meter register) .area = cc (own-area-after local register whole call here) in
         let reply : step call register .reply ≡ act call (areaOf meter register) .reply = cc (own-reply local register whole call here) in
         rw (bytes, named, reply) (call-kept (areaOf meter register) t kept call size dated)
 
-    other : (placeOf call ≡ meter → ⊥) → names meter call ≡ false → Changed
-    other apart unnamed = rw (other-area local register whole call meter apart, unnamed) kept
+    other : names meter call ≡ false → Changed
+    other unnamed = rw (unnamed-area local register whole call meter unnamed, unnamed) kept
 
     step-kept : Changed
-    unfolding names
-    step-kept = by-test (eqb (placeOf call) meter) (λ h. own (eqb-true _ _ h) h) (λ h. other (eqb-false _ _ h) h)
+    step-kept = by-test (names meter call) own other
 
   run-kept : (calls : List Call) (register : List ℕ) → Whole register → areDated calls ≡ true → (t : Tally) → Kept (areaOf meter register) t → Kept (areaOf meter (registerAfter calls register)) (tallyOver meter (exchanges calls register) t)
   unfolding registerAfter exchanges tallyOver areDated
@@ -81,11 +81,11 @@ Far p = (register : List ℕ) → Whole register → areasIn register ≤ p
 
 module _ (meter : ℕ) (far : Far meter) where
   step-far : (call : Call) (register : List ℕ) → Whole register → (t : Tally) → changed meter call register t ≡ t
-  unfolding names tallyAfter
+  unfolding tallyAfter
   step-far call register whole t =
-      by-test (eqb (placeOf call) meter)
+      by-test (names meter call)
       (λ h.
-      let past : areasIn register ≤ placeOf call = rw (eqb-true (placeOf call) meter h) (far register whole) in
+      let past : areasIn register ≤ placeOf call = rw (named-place meter call h) (far register whole) in
       let number : numberOf (step call register .reply) ≡ noMeter =
       ap (λ (d : Done). numberOf (d .reply)) (refuses local register whole call past) ∙ refusal-number call noMeter
       in

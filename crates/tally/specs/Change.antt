@@ -8,7 +8,7 @@ use Rattle.arithmetic.specs.Powers.{tenTo}
 use Rattle.terms.specs.declared.answer.Answer.{Answer}
 use Rattle.terms.specs.Number.{accepted}
 use Rattle.calls.specs.declared.call.Call.{Call}
-use Rattle.calls.specs.declared.call.Call.the-variants.{Enrol, Submit, Withdraw, Report as ReportCall, Fold}
+use Rattle.calls.specs.declared.call.Call.the-variants.{Enrol, Submit, Withdraw, Report as ReportCall, Fold, Trial}
 use Rattle.calls.specs.declared.call.Reply.{Reply}
 use Rattle.calls.specs.declared.call.Reply.the-variants.{Answered, Reported}
 use Rattle.calls.specs.Play.{numberOf}
@@ -66,7 +66,8 @@ withoutRead flag advance t =
       last = cond (eqb (t .standing) 1) (pos 0) (lastWithout flag advance t);
     }
 
--- ---- the change. A fold and a report change nothing, and an answer that is none to the call changes nothing either.
+-- ---- the change. A fold and a report change nothing, and an answer that is none to the call changes nothing either. A trial is no call on the
+-- meter, so that it changes nothing whatever it is answered.
 unfoldable pub taken : Call → Reply → Tally → Tally
 taken (Enrol place profile dials capacity) (Answered a) t = cond (isZero t) (madeTo (enrolled dials) t) t
 taken (Enrol place profile dials capacity) (Reported r) t = t
@@ -78,6 +79,7 @@ taken (Withdraw place day value) (Answered a) t =
 taken (Withdraw place day value) (Reported r) t = t
 taken (ReportCall place) reply t = t
 taken (Fold place) reply t = t
+taken (Trial place s) reply t = t
 
 -- "every refused call" changes nothing, 19 and 20 too
 unfoldable pub tallyAfter : Call → Reply → Tally → Tally

@@ -6,7 +6,7 @@ use mathlib.Core.List.{List, [], _∷_}
 use Prim.Native.Nat.{ℕ}
 use lib.Dec.{leb}
 use Rattle.calls.specs.declared.call.Call.{Call}
-use Rattle.calls.specs.declared.call.Call.the-variants.{Enrol, Submit, Withdraw, Report as ReportCall, Fold}
+use Rattle.calls.specs.declared.call.Call.the-variants.{Enrol, Submit, Withdraw, Report as ReportCall, Fold, Trial}
 use Rattle.calls.specs.declared.call.Reply.the-variants.{Reported}
 use Rattle.calls.specs.Calls.{step}
 use Rattle.calls.specs.Play.{Exchange, registerAfter, zeroRegister, names}
@@ -31,6 +31,7 @@ isDated (Submit place s) = leb (s .day) mostDay
 isDated (Withdraw place day value) = true
 isDated (ReportCall place) = true
 isDated (Fold place) = true
+isDated (Trial place s) = true
 
 unfoldable pub areDated : List Call → Bool
 areDated [] = true

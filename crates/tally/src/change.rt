@@ -160,6 +160,7 @@ fn answered(t: Tally, call: Call, a: Answer) -> Tally
         } => withdraw(t, a.flag, a.advance),
         Call::Report { place: _ } => t,
         Call::Fold { place: _ } => t,
+        Call::Trial { place: _, read: _ } => t,
     }
 }
 

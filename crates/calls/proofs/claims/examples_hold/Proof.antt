@@ -24,7 +24,7 @@ use Rattle.journal.specs.Total.{flaggedOf, standingIn, flaggedIn, firstIn, tota
 use Rattle.calls.specs.Calls.{placeOf}
 use Rattle.calls.specs.Checks.{isWithdrawnRead, isOldestKept, isNoFold, isNotStanding, isNotLast, indicatedIn, withdrawRules, foldChecks}
 use Rattle.calls.specs.Fold.{keptFrom, stays, carryAfter, headAfter, foldedJournal}
-use Rattle.calls.specs.Play.{numberOf, names, mayChange, isPicked, picked}
+use Rattle.calls.specs.Play.{numberOf, isTrial, names, mayChange, isPicked, picked}
 use Rattle.calls.specs.Ledger.{isSameRead, takeOut, emptyLedger, flagOf, entered, isAccepted, ledgerAfter, ledgerOf, hasAccepted, isEnrolment, hasEnrolment, firstValueOf, lastLessFirst, lessFirst, isAmong, areNoneOf}
 use Rattle.calls.specs.Examples.{year, fourReads}
 use Rattle.calls.proofs.claims.examples_hold.Statement.{statement}
@@ -35,7 +35,7 @@ unfolding foldIn HasZeros
 fold-zeros area = by-test (eqb (firstBroken (foldChecks area)) accepted) (λ h. rw h (refl, refl)) (λ h. rw h (refl, refl))
 
 returns : tie.Need-returns
-unfolding isWithdrawn those any hasRead placeOf isWithdrawnRead numberOf names mayChange isPicked picked isSameRead takeOut emptyLedger flagOf entered isAccepted ledgerAfter ledgerOf hasAccepted isEnrolment hasEnrolment firstValueOf lastLessFirst isAmong areNoneOf year fourReads lessFirst keptFrom stays carryAfter headAfter foldedJournal isStanding isHeld slotAt dayOf isFlagged flaggedOf standingIn flaggedIn firstIn firstValue totalOf reportOf advanceOf tenTo isNoFold isFinal isOldestKept oldestOf noCarry mostEntries carriesRight isCarry isBefore holds isNotStanding isNotLast withdrawRules indicatedIn recentOf detected indicated isNotRollover stepBack isSmallStep isRollover isPlain scaledOf isNearTurn isLikeRate isSmallPart isSmallTurn isSmallAdvance headBytes offsetAfter wordAt longAt isCarryAt carryAt headOf meterKind profileOf
+unfolding isWithdrawn those any hasRead placeOf isWithdrawnRead numberOf isTrial names mayChange isPicked picked isSameRead takeOut emptyLedger flagOf entered isAccepted ledgerAfter ledgerOf hasAccepted isEnrolment hasEnrolment firstValueOf lastLessFirst isAmong areNoneOf year fourReads lessFirst keptFrom stays carryAfter headAfter foldedJournal isStanding isHeld slotAt dayOf isFlagged flaggedOf standingIn flaggedIn firstIn firstValue totalOf reportOf advanceOf tenTo isNoFold isFinal isOldestKept oldestOf noCarry mostEntries carriesRight isCarry isBefore holds isNotStanding isNotLast withdrawRules indicatedIn recentOf detected indicated isNotRollover stepBack isSmallStep isRollover isPlain scaledOf isNearTurn isLikeRate isSmallPart isSmallTurn isSmallAdvance headBytes offsetAfter wordAt longAt isCarryAt carryAt headOf meterKind profileOf
 returns c =
     record {
       report-picked = refl;

@@ -10,13 +10,13 @@ use Rattle.journal.specs.Sound.{any, holds, isPlate, isHead, isInRange, isRead}
 use Rattle.calls.specs.Calls.{placeOf}
 use Rattle.calls.specs.Checks.{isMissing, isBadContent, isOtherType, isBadDate, isWithdrawnRead, contentRules}
 use Rattle.calls.specs.Fold.{headAfter}
-use Rattle.calls.specs.Play.{numberOf, names, mayChange, isPicked}
+use Rattle.calls.specs.Play.{numberOf, isTrial, names, mayChange, isPicked}
 use Rattle.calls.specs.Ledger.{emptyLedger, entered, isAccepted, ledgerAfter, ledgerOf, isEnrolment, hasEnrolment}
 use Rattle.calls.proofs.claims.profile_examples_hold.Statement.{statement}
 use Rattle.calls.proofs.claims.profile_examples_hold.Tie as tie
 
 returns : tie.Need-returns
-unfolding tenTo isStanding isWithdrawn isHeld those isKnown isOpening meterKind profileOf takes wordAt longAt putWord putLong isCarryAt carryAt noCarry headOf putMeter putHead any holds isPlate isHead isInRange isRead placeOf isMissing isBadContent isOtherType isBadDate isWithdrawnRead contentRules headAfter numberOf names mayChange isPicked emptyLedger entered isAccepted ledgerAfter ledgerOf isEnrolment hasEnrolment
+unfolding tenTo isStanding isWithdrawn isHeld those isKnown isOpening meterKind profileOf takes wordAt longAt putWord putLong isCarryAt carryAt noCarry headOf putMeter putHead any holds isPlate isHead isInRange isRead placeOf isMissing isBadContent isOtherType isBadDate isWithdrawnRead contentRules headAfter numberOf isTrial names mayChange isPicked emptyLedger entered isAccepted ledgerAfter ledgerOf isEnrolment hasEnrolment
 returns c =
     record {
       pseudo-read = refl;

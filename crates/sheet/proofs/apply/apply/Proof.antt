@@ -1,4 +1,5 @@
 -- Each kind of call has its function, whose contract is this one's at that kind.
+use Rattle.calls.proofs.Tried.{is-trial}
 use borrow.Author.Needs.{needs}
 use Rattle.sheet.proofs.apply.apply.Statement.{statement}
 use Rattle.sheet.proofs.apply.apply.Tie as tie
@@ -32,6 +33,12 @@ enum-known-call-5 c = search needs
 
 fold-requires : tie.Need-fold-requires
 fold-requires c κs = search needs
+
+enum-known-call-6 : tie.Need-enum-known-call-6
+enum-known-call-6 c = search needs
+
+trial-requires : tie.Need-trial-requires
+trial-requires c κs = search needs
 
 same-length : tie.Need-same-length
 same-length c = search needs
@@ -71,6 +78,12 @@ returns-5 c =
     let called = c .before .before in
     rw (called .before .before .before .call5 .given .1) (called .fold .ensures)
 
+same-length-6 : tie.Need-same-length-6
+same-length-6 c = search needs
+
+returns-6 : tie.Need-returns-6
+returns-6 c = rw (c .before .before .before .call6 .given .1) (is-trial _ _ _ (c .trial .ensures))
+
 pub apply-spec : {M : Type 1} → statement M
 apply-spec =
     tie.close
@@ -85,6 +98,8 @@ apply-spec =
     report-requires
     enum-known-call-5
     fold-requires
+    enum-known-call-6
+    trial-requires
     same-length
     returns
     same-length-2
@@ -94,4 +109,6 @@ apply-spec =
     same-length-4
     returns-4
     same-length-5
-    returns-5)
+    returns-5
+    same-length-6
+    returns-6)

@@ -42,6 +42,9 @@ enum-told-2 c = search needs
 enum-told-3 : tie.Need-enum-told-3
 enum-told-3 c = search needs
 
+enum-told-4 : tie.Need-enum-told-4
+enum-told-4 c = search needs
+
 returns-2 : tie.Need-returns-2
 unfolding tallyAfter numberOf taken
 returns-2 c = rw (c .before .before .call .given .1, eq-eqb _ accepted (c .before .before .before .before .if1 .left)) (c .enrol .ensures)
@@ -65,6 +68,10 @@ returns-6 : tie.Need-returns-6
 unfolding tallyAfter numberOf taken
 returns-6 c = rw (c .enum-told3 .given .1, eq-eqb _ accepted (c .before .before .if1 .left))
 
+returns-7 : tie.Need-returns-7
+unfolding tallyAfter numberOf taken
+returns-7 c = rw (c .enum-told4 .given .1, eq-eqb _ accepted (c .before .before .if1 .left))
+
 pub answered-spec : {M : Type 1} → statement M
 answered-spec =
     tie.close
@@ -78,8 +85,10 @@ answered-spec =
     withdraw-requires
     enum-told-2
     enum-told-3
+    enum-told-4
     returns-2
     returns-3
     returns-4
     returns-5
-    returns-6)
+    returns-6
+    returns-7)

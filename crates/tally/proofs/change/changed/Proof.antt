@@ -5,7 +5,7 @@ use lib.Dec.{eqb}
 use Rattle.terms.specs.declared.answer.Report.{Report}
 use Rattle.terms.specs.Number.{accepted}
 use Rattle.calls.specs.declared.call.Call.{Call}
-use Rattle.calls.specs.declared.call.Call.the-variants.{Enrol, Submit, Withdraw, Report as ReportCall, Fold}
+use Rattle.calls.specs.declared.call.Call.the-variants.{Enrol, Submit, Withdraw, Report as ReportCall, Fold, Trial}
 use Rattle.calls.specs.declared.call.Reply.the-variants.{Reported}
 use Rattle.calls.specs.Play.{numberOf}
 use Rattle.tally.specs.declared.tally.Tally.{Tally}
@@ -35,6 +35,7 @@ nothing (Submit place s) r t = same (eqb (r .number) accepted) t
 nothing (Withdraw place day value) r t = same (eqb (r .number) accepted) t
 nothing (ReportCall place) r t = same (eqb (r .number) accepted) t
 nothing (Fold place) r t = same (eqb (r .number) accepted) t
+nothing (Trial place s) r t = same (eqb (r .number) accepted) t
 
 returns : tie.Need-returns
 returns c = rw (c .before .before .reply .given .1) (c .answered .ensures)

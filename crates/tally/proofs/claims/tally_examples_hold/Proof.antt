@@ -3,7 +3,7 @@ use mathlib.Core.Path.{refl}
 use Rattle.arithmetic.specs.Powers.{tenTo}
 use Rattle.arithmetic.specs.Advance.{advanceOf}
 use Rattle.calls.specs.Calls.{placeOf}
-use Rattle.calls.specs.Play.{numberOf, names}
+use Rattle.calls.specs.Play.{numberOf, isTrial, names}
 use Rattle.tally.specs.Tally.{isZero, hasOtherDials, isNoValue, isBroken, tallyNumber, tallyTotal, tallyReport}
 use Rattle.tally.specs.Change.{tallyFor, mayBe, madeTo, enrolled, withRead, lastWithout, withoutRead, taken, tallyAfter}
 use Rattle.tally.specs.Kept.{tallyOver, isDated, areDated}
@@ -12,7 +12,7 @@ use Rattle.tally.proofs.claims.tally_examples_hold.Statement.{statement
 use Rattle.tally.proofs.claims.tally_examples_hold.Tie as tie
 
 returns : tie.Need-returns
-unfolding tenTo advanceOf placeOf numberOf names isZero hasOtherDials isNoValue isBroken tallyNumber tallyTotal tallyReport tallyFor mayBe madeTo enrolled withRead lastWithout withoutRead taken tallyAfter tallyOver isDated areDated year
+unfolding tenTo advanceOf placeOf numberOf isTrial names isZero hasOtherDials isNoValue isBroken tallyNumber tallyTotal tallyReport tallyFor mayBe madeTo enrolled withRead lastWithout withoutRead taken tallyAfter tallyOver isDated areDated year
 returns c =
     record {
       zero = refl;

@@ -1,0 +1,19 @@
+-- What is answered follows from the decision, and so does what the submission is to answer.
+use Rattle.submit.proofs.Taken.{answers-so}
+use borrow.Author.Needs.{needs}
+use Rattle.submit.proofs.trial.trial_in.Statement.{statement}
+use Rattle.submit.proofs.trial.trial_in.Tie as tie
+
+decide-requires : tie.Need-decide-requires
+decide-requires c κs = search needs
+
+answer-requires : tie.Need-answer-requires
+answer-requires c κs = search needs
+
+returns : tie.Need-returns
+returns c =
+    let start = c .before .before .before .args in
+    cc (answers-so (start .s) (start .area .now), c .answer .ensures, c .before .decide .ensures)
+
+pub trial-in-spec : {M : Type 1} → statement M
+trial-in-spec = tie.close (tie.spec decide-requires answer-requires returns)
