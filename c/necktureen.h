@@ -4,8 +4,8 @@
  *
  * A register is NECKTUREEN_REGISTER_BYTES bytes that the caller lends, all zero at first; place p's meter has the
  * NECKTUREEN_AREA_BYTES bytes from NECKTUREEN_AREA_BYTES * p on. A function that takes a register takes it as a pointer
- * and its length, whatever that is and whatever the bytes are. Enrol, submit, withdraw, fold and report answer one of
- * the numbers below. A number other than 0 changes no byte of the register and puts zeros in the other fields; 19 and
+ * and its length, whatever that is and whatever the bytes are. Enrol, submit, trial, withdraw, fold and report answer one
+ * of the numbers below. A number other than 0 changes no byte of the register and puts zeros in the other fields; 19 and
  * 20 store the held read.
  *
  * Pointers: a pointer and its length belong together. What is written (register, text, tally, other fields) is valid, apart
@@ -27,9 +27,9 @@
 extern "C" {
 #endif
 
-#define NECKTUREEN_VERSION "0.7.0"
+#define NECKTUREEN_VERSION "0.8.0"
 #define NECKTUREEN_VERSION_MAJOR 0
-#define NECKTUREEN_VERSION_MINOR 7
+#define NECKTUREEN_VERSION_MINOR 8
 #define NECKTUREEN_VERSION_PATCH 0
 
 #define NECKTUREEN_REGISTER_BYTES 32768
@@ -170,6 +170,13 @@ uint8_t necktureen_enrol_pseudo(uint8_t *reg, size_t length, uint16_t place, uin
 uint8_t necktureen_submit(uint8_t *reg, size_t length, uint16_t place, uint16_t submitted, uint16_t day, uint32_t value,
                           uint8_t letter, uint8_t indicator, uint8_t reread, uint8_t *flag, int64_t *advance);
 
+/* Tries a read: answers what necktureen_submit would answer to it now, 19 and 20 too, and writes no byte of the register,
+ * so that no read is held either. It is no call on the meter: whatever comes after it comes as without it, and a tally is
+ * told nothing of it. */
+uint8_t necktureen_trial(const uint8_t *reg, size_t length, uint16_t place, uint16_t submitted, uint16_t day,
+                         uint32_t value, uint8_t letter, uint8_t indicator, uint8_t reread, uint8_t *flag,
+                         int64_t *advance);
+
 /* Withdraws the last standing read, named by its day and value. Accepted, it answers the read's flag and its advance
  * negated. The oldest read that a fold kept is not withdrawn. */
 uint8_t necktureen_withdraw(uint8_t *reg, size_t length, uint16_t place, uint16_t day, uint32_t value, uint8_t *flag,
@@ -198,7 +205,7 @@ size_t necktureen_play(const uint8_t *sheet, size_t sheet_length, uint8_t *reg, 
 /* Changes a tally in place, after every answered call that names its meter: by the call's kind, the dials of an enrolment
  * (of either profile) or the value of a submission, and by what was answered. Pass 0 for dials or value of other calls;
  * they are not looked at. A refusal, a report, a fold and an unknown kind change nothing; nor does what would make of it
- * a tally that reports 4. */
+ * a tally that reports 4. A trial has no kind. */
 void necktureen_tally_change(struct necktureen_tally *tally, uint8_t kind, uint8_t dials, uint32_t value,
                              uint8_t number, uint8_t flag, int64_t advance);
 

@@ -37,6 +37,20 @@ extern "C" {
         advance: *mut i64,
     ) -> u8;
 
+    pub fn necktureen_trial(
+        register: *const u8,
+        length: usize,
+        place: u16,
+        submitted: u16,
+        day: u16,
+        value: u32,
+        letter: u8,
+        indicator: u8,
+        reread: u8,
+        flag: *mut u8,
+        advance: *mut i64,
+    ) -> u8;
+
     pub fn necktureen_withdraw(
         register: *mut u8,
         length: usize,

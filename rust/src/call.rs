@@ -1,6 +1,6 @@
 //! A call as a value.
 
-use crate::{enrol, enrol_pseudo, fold, indicator, report, submit, withdraw, Reply};
+use crate::{enrol, enrol_pseudo, fold, indicator, report, submit, trial, withdraw, Reply};
 use core::fmt;
 
 /// The value that marks one that is missing: answered [`Number::Missing`](crate::Number::Missing).
@@ -71,6 +71,13 @@ pub enum Call {
         /// Its capacity in m³ a year, at least 1.
         capacity: u32,
     },
+    /// See [`trial`]. It is no call on the meter, and no day sheet has an entry for it.
+    Trial {
+        /// Which meter.
+        place: u16,
+        /// The read.
+        read: Submission,
+    },
 }
 
 impl Call {
@@ -85,6 +92,7 @@ impl Call {
             Call::EnrolPseudo { place, dials, capacity } => {
                 Reply::Answer(enrol_pseudo(register, place, dials, capacity))
             }
+            Call::Trial { place, read } => Reply::Answer(trial(register, place, read)),
         }
     }
 
@@ -96,7 +104,8 @@ impl Call {
             | Call::Withdraw { place, .. }
             | Call::Report { place }
             | Call::Fold { place }
-            | Call::EnrolPseudo { place, .. } => place,
+            | Call::EnrolPseudo { place, .. }
+            | Call::Trial { place, .. } => place,
         }
     }
 }
@@ -115,6 +124,7 @@ impl fmt::Display for Call {
             Call::EnrolPseudo { place, dials, capacity } => {
                 write!(f, "enrol-pseudo place {place} dials {dials} capacity {capacity}")
             }
+            Call::Trial { place, read } => write!(f, "trial place {place} {read}"),
         }
     }
 }

@@ -53,6 +53,32 @@ pub fn submit(register: &mut [u8], place: u16, read: Submission) -> Answer {
     Answer { number: Number::answered(number), flag, advance }
 }
 
+/// Tries a read: answers what [`submit`] would answer to it now, [`Number::Low`] and [`Number::High`] too, and writes
+/// nothing, so that no read is held either. It is no call on the meter: whatever comes after it comes as without it.
+#[must_use = "a trial does nothing but answer"]
+pub fn trial(register: &[u8], place: u16, read: Submission) -> Answer {
+    let (at, length) = (register.as_ptr(), register.len());
+    let Submission { submitted, day, value, letter, indicator, reread } = read;
+    let (mut flag, mut advance) = (0, 0);
+    // SAFETY: the register's own pointer and length, which is read alone, and two locals.
+    let number = unsafe {
+        boundary::necktureen_trial(
+            at,
+            length,
+            place,
+            submitted,
+            day,
+            value,
+            letter,
+            indicator,
+            reread,
+            &mut flag,
+            &mut advance,
+        )
+    };
+    Answer { number: Number::answered(number), flag, advance }
+}
+
 /// Withdraws the meter's last standing read, named by its day and value. Accepted, it answers the read's flag and its
 /// advance negated. The oldest read that a [`fold`] kept is not withdrawn.
 pub fn withdraw(register: &mut [u8], place: u16, day: u16, value: u32) -> Answer {

@@ -1,8 +1,10 @@
 //! Safe calls into the proved validator of water meter reads.
 //!
 //! A register is a slice of [`REGISTER_BYTES`] bytes that the caller lends, all zero at first. Each call is a function:
-//! [`enrol`], [`enrol_pseudo`], [`submit`], [`withdraw`], [`report`], [`fold`] and [`journal`]; or a value, a [`Call`],
-//! that can be kept, written to a day sheet and made. [`play`] plays a whole day sheet.
+//! [`enrol`], [`enrol_pseudo`], [`submit`], [`withdraw`], [`report`], [`fold`], [`trial`] and [`journal`]; or a value, a
+//! [`Call`], that can be kept, written to a day sheet and made. [`play`] plays a whole day sheet.
+//!
+//! [`trial`] answers what [`submit`] would, and writes nothing: for those who want to know before they commit.
 //!
 //! A site that has no dial is enrolled by [`enrol_pseudo`]. Such a pseudo meter takes initial and final reads only, and is
 //! in all else a meter as any other.
@@ -40,7 +42,7 @@ mod tally;
 
 pub use answer::{Answer, Reply, Report};
 pub use call::{Call, Submission, MISSING};
-pub use calls::{enrol, enrol_pseudo, fold, journal, play, report, submit, withdraw};
+pub use calls::{enrol, enrol_pseudo, fold, journal, play, report, submit, trial, withdraw};
 pub use date::{date_of, day_of, Date};
 pub use journal::{entries, Entries, Entry, Read};
 pub use number::{Number, UnknownNumber};

@@ -48,7 +48,7 @@ impl Deref for SheetEntry {
 }
 
 impl Call {
-    /// Its bytes on a day sheet; `None` if a sheet has no entry for it, which is so for a place above 255.
+    /// Its bytes on a day sheet; `None` if a sheet has no entry for it, which is so for a place above 255 and for a trial.
     #[must_use]
     pub fn sheet_entry(&self) -> Option<SheetEntry> {
         Some(match *self {
@@ -68,6 +68,7 @@ impl Call {
             Call::EnrolPseudo { place, dials, capacity } => {
                 SheetEntry::of(6, place)?.and([dials]).and(capacity.to_le_bytes())
             }
+            Call::Trial { .. } => return None,
         })
     }
 
@@ -168,7 +169,7 @@ impl<'a> SheetWriter<'a> {
 #[derive(Clone, Copy, Debug, PartialEq, Eq)]
 #[non_exhaustive]
 pub enum Unwritten {
-    /// A sheet has no entry for it: its place is above 255.
+    /// A sheet has no entry for it: its place is above 255, or it is a trial.
     NoEntry,
     /// The lent bytes, or the [`SHEET_BYTES`] that a sheet may have, do not hold it.
     NoRoom,
@@ -177,7 +178,7 @@ pub enum Unwritten {
 impl fmt::Display for Unwritten {
     fn fmt(&self, f: &mut fmt::Formatter<'_>) -> fmt::Result {
         f.write_str(match self {
-            Unwritten::NoEntry => "a day sheet holds places up to 255",
+            Unwritten::NoEntry => "a day sheet holds places up to 255, and no trials",
             Unwritten::NoRoom => "the day sheet is full",
         })
     }

@@ -28,8 +28,8 @@ pub struct Tally {
 }
 
 impl Tally {
-    /// Changes the tally as the call, answered so, changed its meter. A refusal changes nothing, nor does a fold or a
-    /// report. A change that leads from or to a tally that reports [`Number::Damaged`] is not made, nor is a second
+    /// Changes the tally as the call, answered so, changed its meter. A refusal changes nothing, nor does a fold, a report or
+    /// a trial. A change that leads from or to a tally that reports [`Number::Damaged`] is not made, nor is a second
     /// enrolment.
     pub fn change(&mut self, call: &Call, reply: Reply) {
         let Reply::Answer(Answer { number, flag, advance }) = reply else { return };
@@ -40,6 +40,8 @@ impl Tally {
             Call::Report { .. } => (4, 0, 0),
             Call::Fold { .. } => (5, 0, 0),
             Call::EnrolPseudo { dials, .. } => (6, dials, 0),
+            // No kind: there is nothing to tell of it.
+            Call::Trial { .. } => (0, 0, 0),
         };
         // SAFETY: a tally that is lent to this call alone; it has the layout of the library's, five numbers of four bytes.
         unsafe { boundary::necktureen_tally_change(self, kind, dials, value, number as u8, flag, advance) }

@@ -107,6 +107,7 @@ fn header_crate_and_library_declare_the_same_functions() {
         "submit",
         "tally_change",
         "tally_report",
+        "trial",
         "withdraw",
     ];
     let names = names.map(|name| format!("necktureen_{name}"));
