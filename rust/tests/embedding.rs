@@ -21,10 +21,12 @@ fn the_readme_shows_the_examples_as_they_are_built() {
     let mut files = vec![
         "c/example.c",
         "c/poll.c",
+        "c/trial.c",
         "rust/examples/embed.rs",
         "rust/examples/fold.rs",
         "rust/examples/keep.rs",
         "rust/examples/poll.rs",
+        "rust/examples/trial.rs",
     ];
     for block in blocks(&text("README.md")) {
         if let Block::Fenced { word, text: code } = block {
@@ -159,6 +161,15 @@ fn the_polling_example_prints_a_meters_totals() {
     assert_eq!(as_text(&output.stdout), lines.concat(), "{}", as_text(&output.stderr));
 }
 
+/// A misread is tried and not sent, the right read is tried and sent.
+#[test]
+fn the_trial_in_c_has_no_warning() {
+    let lines = "sent 1200: 0 accepted, flag 0, advance 0\nsent 1400: 0 accepted, flag 0, advance 200\n\
+        tried 6120: 20 high, flag 0, advance 0\ntried 1620: 0 accepted, flag 0, advance 220\n\
+        sent 1620: 0 accepted, flag 0, advance 220\n";
+    assert_eq!(printed("trial", &text("c/trial.c")), lines);
+}
+
 /// A program that prints each of these C expressions.
 fn printing(expressions: &[String]) -> String {
     let lines: String = expressions.iter().map(|e| format!("    printf(\"%lld\\n\", (long long)({e}));\n")).collect();
@@ -272,6 +283,40 @@ fn a_fold_is_answered_where_c_says() {
         printf(\"%u\\n\", (unsigned)necktureen_journal(reg, sizeof reg, 7));\n    }\n    return 0;\n}\n";
     let lines = "0 accepted, 9 0 9, 9 0 9, 45\n27 no fold, 9 0 9, 9 0 9, 45\n2 misfit, 9 0 9, 9 0 9, 45\n";
     assert_eq!(printed("fold", code), lines);
+}
+
+/// The same of a trial, on a register that C may not write: its fields are put, a rollover's too, and those of a refusal are
+/// zeros.
+#[test]
+fn a_trial_is_answered_where_c_says() {
+    let code = r#"
+#include <stdio.h>
+#include "necktureen.h"
+static uint8_t reg[NECKTUREEN_REGISTER_BYTES];
+static void tried(const uint8_t *r, size_t length, uint16_t day, uint32_t value, uint8_t letter) {
+    uint8_t f[] = {9, 9, 9};
+    int64_t a[] = {9, 9, 9};
+    uint8_t number = necktureen_trial(r, length, 7, day, day, value, letter, NECKTUREEN_TRUE, 0, &f[1], &a[1]);
+    printf("%u %s, %u %u %u, %d %d %d, ", number, necktureen_word(number), f[0], f[1], f[2], (int)a[0], (int)a[1],
+           (int)a[2]);
+    printf("%u\n", (unsigned)necktureen_journal(r, length, 7));
+}
+int main(void) {
+    uint8_t flag;
+    int64_t advance;
+    necktureen_enrol(reg, sizeof reg, 7, 4, 5000, &flag, &advance);
+    necktureen_submit(reg, sizeof reg, 7, 1000, 1000, 9400, NECKTUREEN_INITIAL, NECKTUREEN_NOT_SET, 0, &flag, &advance);
+    necktureen_submit(reg, sizeof reg, 7, 1180, 1180, 9600, NECKTUREEN_CYCLIC, NECKTUREEN_NOT_SET, 0, &flag, &advance);
+    tried(reg, sizeof reg, 1540, 20, NECKTUREEN_CYCLIC);
+    tried(reg, sizeof reg, 1540, 5000, NECKTUREEN_CYCLIC);
+    tried(reg, sizeof reg, 1540, 20, NECKTUREEN_INITIAL);
+    tried(reg, 512, 1540, 20, NECKTUREEN_CYCLIC);
+    return 0;
+}
+"#;
+    let lines = "0 accepted, 9 1 9, 9 420 9, 26\n20 high, 9 0 9, 9 0 9, 26\n9 AT, 9 0 9, 9 0 9, 26\n\
+        2 misfit, 9 0 9, 9 0 9, 0\n";
+    assert_eq!(printed("tried", code), lines);
 }
 
 /// The same of the enrolment of a pseudo meter, which then refuses a cyclic read and takes an initial one.
