@@ -18,6 +18,7 @@ use judge::area::Summary;
 use judge::area::judge_area;
 use reads::found::read_on;
 use reads::recent::recent;
+use register::area::Layout;
 use register::head::offset_after;
 use rules::detection::detect;
 use rules::indicator::Indicated;
@@ -121,6 +122,10 @@ pub(crate) fn decide(area: &[u8], s: Submission) -> Decision
     match found {
         Judged::Zero => refused(Number::NO_METER),
         Judged::Damaged => refused(Number::DAMAGED),
-        Judged::Sound(t) => decide_sound(area, s, t, judgement.withdrawn),
+        Judged::Sound(t) => {
+            // Of a part whose length is written out the questions need not test it.
+            let whole = &area[0..Layout::AREA_BYTES];
+            decide_sound(whole, s, t, judgement.withdrawn)
+        }
     }
 }
