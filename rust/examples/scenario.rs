@@ -21,7 +21,8 @@ Lines, and what they may hold:";
 
 const NOTES: &str = "\
 A day is a date or a day number; day 1 is 2000-01-01. A type is a letter or its word. Indicator and re-read may be
-left out. What follows a # is a comment.";
+left out. What follows a # is a comment. A trial is answered as the submission would be; it changes nothing, and no day
+sheet holds one.";
 
 /// A line of the text, and its call if it has one.
 type Line<'a> = (&'a str, Option<Call>);

@@ -58,7 +58,8 @@ fn the_year_of_the_demands() {
 const FAULTS: &[(&str, &str)] = &[
     (
         "enroll place 0",
-        "'enroll' is not a call; a line begins with one of: enrol, enrol-pseudo, submit, withdraw, report, fold",
+        "'enroll' is not a call; a line begins with one of: \
+         enrol, enrol-pseudo, submit, trial, withdraw, report, fold",
     ),
     ("report", "report lacks 'place'; a whole line is: report place 0"),
     ("fold", "fold lacks 'place'; a whole line is: fold place 0"),
@@ -69,6 +70,21 @@ const FAULTS: &[(&str, &str)] = &[
     ("enrol-pseudo place 0 type I", "'type' is not a field of enrol-pseudo; it has: place, dials, capacity"),
     ("enrol-pseudo place 0 dials 256 capacity 1", "dials is a whole number from 0 to 255, not '256'"),
     ("fold place 0 day 1", "'day' is not a field of fold; it has: place"),
+    (
+        "trial place 0 day 1 type C value 1",
+        "trial lacks 'submitted'; a whole line is: \
+         trial place 0 submitted 2000-06-15 day 2000-06-01 type C value 1060 indicator true re-read yes",
+    ),
+    (
+        "trial place 0 dials 4",
+        "'dials' is not a field of trial; it has: place, submitted, day, type, value, indicator, re-read",
+    ),
+    ("trial place 0 submitted 1 submitted 1", "submitted is given twice"),
+    ("trial place 0 submitted 2001-02-29 day 1 type C value 1", "submitted: 2001-02-29 is not in the calendar"),
+    (
+        "trial place 0 submitted 1 day 1 type C value 1 re-read true",
+        "re-read is yes, no or a whole number from 0 to 255, not 'true'",
+    ),
     ("report place", "place has no value after it"),
     ("report place 0 place 1", "place is given twice"),
     ("report place 0 day 1", "'day' is not a field of report; it has: place"),
@@ -132,7 +148,7 @@ fn a_sheet_says_which_call_it_cannot_hold() {
     let wide = run_example("scenario", &["--sheet"], b"report place 255\nreport place 256\n");
     assert_eq!(
         (wide.status.code(), as_text(&wide.stderr)),
-        (Some(1), "line 2: a day sheet holds places up to 255\n".into())
+        (Some(1), "line 2: a day sheet holds places up to 255, and no trials\n".into())
     );
     let long = run_example("scenario", &["--sheet"], "report place 0\n".repeat(30_001).as_bytes());
     assert_eq!((long.status.code(), as_text(&long.stderr)), (Some(1), "line 30001: the day sheet is full\n".into()));
@@ -143,9 +159,6 @@ fn a_file_that_is_not_there_and_unknown_words_have_their_own_status() {
     let missing = run_example("scenario", &["rust/scenarios/none.txt"], &[]);
     assert_eq!(missing.status.code(), Some(2));
     assert!(as_text(&missing.stderr).starts_with("rust/scenarios/none.txt: "));
-    let help = run_example("scenario", &["--help"], &[]);
-    assert_eq!(help.status.code(), Some(0));
-    assert!(as_text(&help.stdout).starts_with("scenario [--sheet] [FILE]"));
     for words in [&["--sheets"][..], &["a", "b"]] {
         let output = run_example("scenario", words, &[]);
         assert_eq!(output.status.code(), Some(2), "{words:?}");
@@ -153,9 +166,23 @@ fn a_file_that_is_not_there_and_unknown_words_have_their_own_status() {
     }
 }
 
+/// Help has a line of each call, as one may write it.
+#[test]
+fn help_shows_a_line_of_each_call() {
+    let help = run_example("scenario", &["--help"], &[]);
+    assert_eq!(help.status.code(), Some(0));
+    let said = as_text(&help.stdout);
+    assert!(said.starts_with("scenario [--sheet] [FILE]"));
+    for form in lines::FORMS {
+        assert!(said.lines().any(|line| line.trim_start() == form.example), "{}", form.example);
+        assert_eq!(calls(form.example).len(), 1, "{}", form.example);
+    }
+    assert!(said.contains("  trial place 0 submitted"), "{said}");
+}
+
 // ---- The language ----
 
-/// Every call, printed as a line, is read as the same call.
+/// Every call, printed as a line, is read as the same call. Every read that is sent may be tried as well.
 #[test]
 fn a_call_is_read_as_it_is_printed() {
     let mut random = Random::new(1);
@@ -164,6 +191,10 @@ fn a_call_is_read_as_it_is_printed() {
         let call = lists::call(&mut random, &mut idle, &register, &[0, 63, 64, 65_535]);
         let _ = call.make(&mut register);
         assert_eq!(lines::call(&call.to_string()), Ok(Some(call)));
+        if let Call::Submit { place, read } = call {
+            let trial = Call::Trial { place, read };
+            assert_eq!(lines::call(&trial.to_string()), Ok(Some(trial)));
+        }
     }
 }
 
@@ -173,6 +204,7 @@ fn words_and_dates_mean_letters_and_days() {
     let line =
         "submit submitted 2179-06-05 type AMR day 2000-03-01 place 7 value missing indicator false re-read no # late";
     assert_eq!(calls(line), [Call::Submit { place: 7, read }]);
+    assert_eq!(calls(&line.replace("submit ", "trial ")), [Call::Trial { place: 7, read }]);
     for (letter, word) in letter::ALL {
         let line = format!("submit place 0 submitted 1 day 1 type {} value 1", word.replace(' ', "-"));
         assert!(matches!(calls(&line)[..], [Call::Submit { read, .. }] if read.letter == *letter), "{line}");

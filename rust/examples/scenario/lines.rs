@@ -44,6 +44,13 @@ pub const FORMS: &[Form] = &[
         call: |fields| Ok(Call::Submit { place: fields.two("place")?, read: fields.read()? }),
     },
     Form {
+        word: "trial",
+        fields: &["place", "submitted", "day", "type", "value"],
+        optional: &["indicator", "re-read"],
+        example: "trial place 0 submitted 2000-06-15 day 2000-06-01 type C value 1060 indicator true re-read yes",
+        call: |fields| Ok(Call::Trial { place: fields.two("place")?, read: fields.read()? }),
+    },
+    Form {
         word: "withdraw",
         fields: &["place", "day", "value"],
         optional: &[],
