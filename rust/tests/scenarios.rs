@@ -4,7 +4,7 @@ mod lists;
 mod text;
 
 use lists::{Idle, Random};
-use necktureen::{letter, Call, Submission, MISSING, REGISTER_BYTES};
+use necktureen::{letter, Call, Number, Submission, MISSING, REGISTER_BYTES};
 use std::process::Command;
 use text::{as_text, calls, dates::day_number, lines, repository, run, run_example, scenario};
 
@@ -50,6 +50,24 @@ fn case_s_is_the_sheet_that_the_program_is_run_on() {
 fn the_year_of_the_demands() {
     let lines = "0 0 0\n0 0 0\n0 0 20\n0 0 20\n0 0 35\n0 0 -35\n8 0 0\n0 0 20\n8 0 0\n0 0 160\n0 5 0 220\n";
     assert_eq!(printed("year.txt"), lines);
+}
+
+/// A read that would be held, its re-read, the right read and a withdrawn one are tried: each is answered as it would be
+/// if it were sent, and the register is left as it was.
+#[test]
+fn the_trials_are_answered_as_submissions_and_change_nothing() {
+    let mut register = vec![0; REGISTER_BYTES];
+    let mut tried = Vec::new();
+    for call in calls(&scenario("trial.txt")) {
+        let mut copy = register.clone();
+        let reply = call.make(&mut register);
+        if let Call::Trial { place, read } = call {
+            assert_eq!(register, copy, "{call}");
+            assert_eq!(reply, Call::Submit { place, read }.make(&mut copy), "{call}");
+            tried.push(reply.number());
+        }
+    }
+    assert_eq!(tried, [Number::High, Number::NoOriginal, Number::Accepted, Number::Withdrawn]);
 }
 
 // ---- Bad lines ----
@@ -152,6 +170,17 @@ fn a_sheet_says_which_call_it_cannot_hold() {
     );
     let long = run_example("scenario", &["--sheet"], "report place 0\n".repeat(30_001).as_bytes());
     assert_eq!((long.status.code(), as_text(&long.stderr)), (Some(1), "line 30001: the day sheet is full\n".into()));
+}
+
+/// Its first trial is named, and nothing is written of the calls before it.
+#[test]
+fn a_scenario_with_a_trial_is_no_sheet() {
+    let tried = run_example("scenario", &["--sheet", "rust/scenarios/trial.txt"], &[]);
+    assert_eq!(
+        (tried.status.code(), as_text(&tried.stderr)),
+        (Some(1), "line 11: a day sheet holds places up to 255, and no trials\n".into())
+    );
+    assert_eq!(tried.stdout, []);
 }
 
 #[test]
