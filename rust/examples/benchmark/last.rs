@@ -1,4 +1,4 @@
-//! The instructions of the library as it was just before there were tallies, version 0.6.0, to be shown beside those of
+//! The instructions of the library as it was just before there were trials, version 0.7.0, to be shown beside those of
 //! now.
 //!
 //! They were counted as they are now, on the same journals.
@@ -80,6 +80,11 @@ const CALLS: &[CallRow] = &[
     ("submit", "refused, unclear whether three dials turned (18)", 3, 610),
     ("journal", "handed back", 0, 283),
     ("journal", "handed back", 50, 1169),
+    ("tally_report", "a report from a tally", 50, 84),
+    ("tally_change", "a tally changed by a submission", 50, 100),
+    ("tally_change", "a tally changed by a withdrawal", 50, 140),
+    ("tally_change", "a tally not changed by a refusal", 50, 38),
+    ("tally_change", "a tally not changed by a fold", 50, 44),
     ("date_of", "the date of a day", 0, 129),
     ("day_of", "the day of a date", 0, 127),
 ];
