@@ -11,7 +11,7 @@ pub fn rows() -> Vec<Row> {
     rows.extend(accepted_submissions());
     rows.extend([3, 25, 49].map(misfit));
     rows.extend([3, 25, 49].map(place_64));
-    rows.extend([3, 25, 49].map(|entries| submit("refused last, capacity (21)", entries, 190, Number::Capacity)));
+    rows.extend([3, 25, 49].map(over_capacity));
     rows.extend([3, 25, 49].map(|entries| submit("held, low (19)", entries, 19, Number::Low)));
     rows.extend([3, 25, 49].map(|entries| submit("held, high (20)", entries, 201, Number::High)));
     rows.extend(of_past_months());
@@ -23,6 +23,7 @@ pub fn rows() -> Vec<Row> {
     rows.extend([3, 48].map(|entries| carried(Made::Submit(next_read_carried(entries)), entries)));
     rows.extend(of_pseudo_meters());
     rows.extend(of_turns());
+    rows.extend(of_trials());
     rows.extend([0, 50].map(|entries| row(Made::Journal, "handed back", entries, Number::Accepted)));
     rows.extend(of_tallies());
     rows.extend([(Made::DateOf, "the date of a day"), (Made::DayOf, "the day of a date")].map(calendar));
@@ -102,6 +103,10 @@ fn place_64(entries: usize) -> Row {
     Row { places: vec![64; usize::from(PLACES)], ..row }
 }
 
+fn over_capacity(entries: usize) -> Row {
+    submit("refused last, capacity (21)", entries, 190, Number::Capacity)
+}
+
 /// On 50 standing reads: one of them sent again, and a read of the day before the newest, on which none stands.
 fn of_past_months() -> Vec<Row> {
     let repeats = [
@@ -178,6 +183,25 @@ fn of_turns() -> [Row; 3] {
 
 fn turn(dials: u8, read: Submission, case: &'static str, expected: Number) -> Row {
     Row { register: register_before_turn(dials), ..row(Made::Submit(read), case, BEFORE_TURN, expected) }
+}
+
+/// Reads that are tried, on journals on which they are submitted above.
+fn of_trials() -> Vec<Row> {
+    let initial = Made::Submit(Withdrawn::None.next_read(0, ADVANCE));
+    let mut submissions: Vec<Row> = [0, 3, 25, 49].map(submit_accepted).into();
+    submissions.extend([3, 25, 49].map(misfit));
+    submissions.extend([3, 25, 49].map(over_capacity));
+    submissions.extend([3, 25, 49].map(|entries| submit("would be held, low (19)", entries, 19, Number::Low)));
+    submissions.push(carried(Made::Submit(next_read_carried(48)), 48));
+    submissions.push(pseudo(initial, "accepted, a pseudo meter's initial read", 0, Number::Accepted));
+    submissions.into_iter().map(tried).collect()
+}
+
+/// The same read on the same journals, tried and not submitted.
+fn tried(submission: Row) -> Row {
+    let Made::Submit(read) = submission.made else { panic!("only a submission is tried") };
+    let made = Made::Trial(read);
+    Row { call: made.word(), made, ..submission }
 }
 
 /// Of a tally of 50 reads: the report that a journal of 50 entries is walked for, and what changes it or does not.

@@ -13,6 +13,7 @@ pub enum Made {
     Enrol { dials: u8, capacity: u32 },
     EnrolPseudo { dials: u8, capacity: u32 },
     Submit(Submission),
+    Trial(Submission),
     Withdraw { day: u16, value: u32 },
     Fold,
     Report,
@@ -59,6 +60,7 @@ impl Made {
             Made::Enrol { .. } => "enrol",
             Made::EnrolPseudo { .. } => "enrol_pseudo",
             Made::Submit(_) => "submit",
+            Made::Trial(_) => "trial",
             Made::Withdraw { .. } => "withdraw",
             Made::Fold => "fold",
             Made::Report => "report",
@@ -68,6 +70,14 @@ impl Made {
             Made::DateOf => "date_of",
             Made::DayOf => "day_of",
         }
+    }
+
+    /// However it is answered, it leaves the register as it is, and a tally too.
+    fn only_reads(self) -> bool {
+        matches!(
+            self,
+            Made::Trial(_) | Made::Report | Made::Journal | Made::TallyReport(_) | Made::DateOf | Made::DayOf
+        )
     }
 }
 
@@ -95,9 +105,7 @@ impl Row {
     /// A call that stores, marks or folds reads finds another register the second time.
     fn changes(&self) -> bool {
         let stored = [Number::Accepted, Number::Low, Number::High].contains(&self.expected);
-        let only_reads =
-            matches!(self.made, Made::Report | Made::Journal | Made::TallyReport(_) | Made::DateOf | Made::DayOf);
-        stored && !only_reads
+        stored && !self.made.only_reads()
     }
 
     /// Holds both sides to the answer that the row names.
@@ -114,6 +122,7 @@ impl Row {
             Made::Enrol { dials, capacity } => (side.enrol)(register, place, dials, capacity).number,
             Made::EnrolPseudo { dials, capacity } => (side.enrol_pseudo)(register, place, dials, capacity).number,
             Made::Submit(read) => (side.submit)(register, place, read).number,
+            Made::Trial(read) => (side.trial)(register, place, read).number,
             Made::Withdraw { day, value } => (side.withdraw)(register, place, day, value).number,
             Made::Fold => (side.fold)(register, place).number,
             Made::Report => (side.report)(register, place).number,
@@ -142,6 +151,9 @@ impl Row {
             Made::Submit(read) => self.stretches(passes, |register, place| {
                 let _ = black_box((side.submit)(register, place, black_box(read)));
             }),
+            Made::Trial(read) => self.stretches(passes, |register, place| {
+                let _ = black_box((side.trial)(register, place, black_box(read)));
+            }),
             Made::Withdraw { day, value } => self.stretches(passes, |register, place| {
                 let _ = black_box((side.withdraw)(register, place, black_box(day), black_box(value)));
             }),
@@ -154,14 +166,8 @@ impl Row {
             Made::Journal => self.stretches(passes, |register, place| {
                 let _ = black_box((side.journal)(register, place));
             }),
-            Made::TallyReport(tally) => self.stretches_on(&[tally; PLACES], passes, |tallies, place| {
-                let _ = black_box((side.tally_report)(&tallies[usize::from(place)]));
-            }),
-            Made::TallyChange(Change { before, call, reply, .. }) => {
-                self.stretches_on(&[before; PLACES], passes, |tallies, place| {
-                    (side.tally_change)(&mut tallies[usize::from(place)], black_box(&call), black_box(reply));
-                })
-            }
+            Made::TallyReport(tally) => self.run_tally_report(side, passes, tally),
+            Made::TallyChange(change) => self.run_tally_change(side, passes, change),
             Made::DateOf => self.stretches(passes, |_, place| {
                 let _ = black_box((side.date_of)(day_at(place)));
             }),
@@ -172,6 +178,18 @@ impl Row {
                 })
             }
         }
+    }
+
+    fn run_tally_report(&self, side: Side, passes: u32, tally: Tally) -> Duration {
+        self.stretches_on(&[tally; PLACES], passes, |tallies, place| {
+            let _ = black_box((side.tally_report)(&tallies[usize::from(place)]));
+        })
+    }
+
+    fn run_tally_change(&self, side: Side, passes: u32, Change { before, call, reply, .. }: Change) -> Duration {
+        self.stretches_on(&[before; PLACES], passes, |tallies, place| {
+            (side.tally_change)(&mut tallies[usize::from(place)], black_box(&call), black_box(reply));
+        })
     }
 
     fn stretches(&self, passes: u32, call: impl Fn(&mut [u8], u16)) -> Duration {

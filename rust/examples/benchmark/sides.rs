@@ -9,6 +9,7 @@ pub struct Side {
     pub enrol: fn(&mut [u8], u16, u8, u32) -> Answer,
     pub enrol_pseudo: fn(&mut [u8], u16, u8, u32) -> Answer,
     pub submit: fn(&mut [u8], u16, Submission) -> Answer,
+    pub trial: fn(&[u8], u16, Submission) -> Answer,
     pub withdraw: fn(&mut [u8], u16, u16, u32) -> Answer,
     pub fold: fn(&mut [u8], u16) -> Answer,
     pub report: fn(&[u8], u16) -> Report,
@@ -23,6 +24,7 @@ pub const LIBRARY: Side = Side {
     enrol: necktureen::enrol,
     enrol_pseudo: necktureen::enrol_pseudo,
     submit: necktureen::submit,
+    trial: necktureen::trial,
     withdraw: necktureen::withdraw,
     fold: necktureen::fold,
     report: necktureen::report,
@@ -37,6 +39,7 @@ pub const PEER: Side = Side {
     enrol: peer::enrol,
     enrol_pseudo: peer::enrol_pseudo,
     submit: peer::submit,
+    trial: peer_trial,
     withdraw: peer::withdraw,
     fold: peer::fold,
     report: peer::report,
@@ -46,6 +49,11 @@ pub const PEER: Side = Side {
     date_of: peer::calendar::date_of,
     day_of: peer::calendar::day_of,
 };
+
+/// The peer has no trial of its own: it submits on a copy of the register, as the paper puts it. The copy is in its time.
+fn peer_trial(register: &[u8], place: u16, read: Submission) -> Answer {
+    peer::submit(&mut register.to_vec(), place, read)
+}
 
 /// The peer has wide numbers of its own: those of a tally are put in them first, and back after a change.
 fn peer_tally_change(tally: &mut Tally, call: &Call, reply: Reply) {
