@@ -63,8 +63,8 @@ numbers! {
     Full = 16, "full", "standing and withdrawn entries number 50, or 49 after a fold";
     Ee = 17, "EE", "the indicator denies what detection found";
     Ef = 18, "EF", "unclear whether the dials turned, and the indicator is not set";
-    Low = 19, "low", "the advance is low; the read is held";
-    High = 20, "high", "the advance is high; the read is held";
+    Low = 19, "low", "the advance is low; submitted, the read is held";
+    High = 20, "high", "the advance is high; submitted, the read is held";
     Capacity = 21, "capacity", "the advance, taken over the days of the read's year, is not below the meter's capacity";
     NotStanding = 22, "not standing", "nothing stands with that day and value";
     NotLast = 23, "not last", "it stands, but not last";
