@@ -1,5 +1,6 @@
-//! Document 01, with the leap years, the folds, the same-day search, the pseudo meters, the three-dial meters and the
-//! standing tally of document 02, written a second time, by hand and from the papers alone, for the tests and the benchmark.
+//! Document 01, with the leap years, the folds, the same-day search, the pseudo meters, the three-dial meters, the standing
+//! tally and the trials of document 02, written a second time, by hand and from the papers alone, for the tests and the
+//! benchmark.
 //!
 //! It shares with the library the types of a submission, of a date, of a call and of the answers and nothing else: register,
 //! rules, order of checks, tally, calendar and day sheet are its own. Where the paper leaves room, a comment says how it
@@ -71,6 +72,13 @@ pub fn submit(register: &mut [u8], place: u16, read: Submission) -> Answer {
     } else {
         refused(verdict.number)
     }
+}
+
+/// "A trial takes the same arguments as a submission and gives the answer that the submission would give on a copy of the
+/// register. The register given is not written."
+pub fn trial(register: &[u8], place: u16, read: Submission) -> Answer {
+    let mut copy = register.to_vec();
+    submit(&mut copy, place, read)
 }
 
 pub fn withdraw(register: &mut [u8], place: u16, day: u16, value: u32) -> Answer {

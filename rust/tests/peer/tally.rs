@@ -71,7 +71,7 @@ impl Tally {
             Call::Enrol { dials, .. } | Call::EnrolPseudo { dials, .. } => self.after_enrolment(dials),
             Call::Submit { read, .. } => self.after_submission(read.value, answer.flag),
             Call::Withdraw { .. } => self.after_withdrawal(answer.flag, answer.advance),
-            // A fold and a report change nothing.
+            // A fold and a report change nothing, and a trial is no call on the meter.
             _ => None,
         }
     }
