@@ -37,19 +37,37 @@ impl Pair {
         &self.wide[self.start..self.start + self.peer.len()]
     }
 
-    /// Makes the call on both sides: the reply that both give, or what differs.
+    /// Makes the call on both sides: the reply that both give, or what differs. A submission is tried first.
     pub fn call(&mut self, call: &Call) -> Result<Reply, String> {
+        let foretold = self.foretold(call)?;
         let end = self.start + self.peer.len();
         let library = call.make(&mut self.wide[self.start..end]);
         let peer = peer_reply(&mut self.peer, call);
         if library != peer {
             return Err(format!("the library answers {library:?}\nthe peer answers    {peer:?}"));
         }
+        if let Some(foretold) = foretold.filter(|&foretold| foretold != library) {
+            return Err(format!("the submission is answered {library:?}\nits trial was answered     {foretold:?}"));
+        }
         self.compare_bytes()?;
         self.compare_journals(call.place())?;
         self.tallies.change(call, library)?;
         self.tallies.compare(self.library(), call.place())?;
         Ok(library)
+    }
+
+    /// What the library answers to the trial of a submission, which writes nothing into the meter's area. Nor does it
+    /// elsewhere: all bytes are compared after the submission.
+    fn foretold(&self, call: &Call) -> Result<Option<Reply>, String> {
+        let Call::Submit { place, read } = *call else {
+            return Ok(None);
+        };
+        let answer = necktureen::trial(self.library(), place, read);
+        let area = AREA_BYTES * usize::from(place)..AREA_BYTES * (usize::from(place) + 1);
+        if self.library().get(area.clone()) != self.peer.get(area) {
+            return Err(format!("the trial before it wrote into the area of place {place}"));
+        }
+        Ok(Some(Reply::Answer(answer)))
     }
 
     /// Holds the tally of every place to the full report.
@@ -86,7 +104,7 @@ impl Pair {
 }
 
 pub fn peer_reply(register: &mut [u8], call: &Call) -> Reply {
-    use peer::{enrol, enrol_pseudo, fold, report, submit, withdraw};
+    use peer::{enrol, enrol_pseudo, fold, report, submit, trial, withdraw};
     match *call {
         Call::Enrol { place, dials, capacity } => Reply::Answer(enrol(register, place, dials, capacity)),
         Call::Submit { place, read } => Reply::Answer(submit(register, place, read)),
@@ -94,6 +112,7 @@ pub fn peer_reply(register: &mut [u8], call: &Call) -> Reply {
         Call::Report { place } => Reply::Report(report(register, place)),
         Call::Fold { place } => Reply::Answer(fold(register, place)),
         Call::EnrolPseudo { place, dials, capacity } => Reply::Answer(enrol_pseudo(register, place, dials, capacity)),
+        Call::Trial { place, read } => Reply::Answer(trial(register, place, read)),
         other => panic!("the peer has no call {other}"),
     }
 }
@@ -155,7 +174,7 @@ impl List {
             let _ = writeln!(text, "  {call}");
         }
         let sheet: Vec<u8> = self.calls.iter().filter_map(Call::sheet_entry).flat_map(|entry| entry.to_vec()).collect();
-        let _ = writeln!(text, "as a day sheet: {}", hexadecimal(&sheet));
+        let _ = writeln!(text, "as a day sheet, without trials: {}", hexadecimal(&sheet));
         if let Some(difference) = self.difference() {
             let _ = writeln!(text, "at the last call {difference}");
         }
@@ -175,5 +194,6 @@ impl List {
 
 pub fn fail(mut list: List, seed: u64) -> ! {
     list.shorten();
-    panic!("library and peer differ, or a tally and the full report, seed {seed}\n{}", list.describe());
+    let what = "library and peer differ, or a tally and the full report, or a trial and its submission";
+    panic!("{what}, seed {seed}\n{}", list.describe());
 }
