@@ -1,6 +1,7 @@
-//! The library beside a second writing of the papers: the same random calls to both, every field of every answer and
-//! every byte compared. Both sides keep a tally of each meter, which is compared too, and is held to the full report where
-//! the register was all zero at first.
+//! The library beside a second writing of the papers: the same random calls to both, trials among them, every field of every
+//! answer and every byte compared. Every submission is tried first, and the trial's answer is held to its own. Both sides
+//! keep a tally of each meter, which is compared too, and is held to the full report where the register was all zero at
+//! first.
 //!
 //! `NECKTUREEN_CALLS` sets how many calls are compared and `NECKTUREEN_SEED` which; both are printed. A difference is
 //! cut down to a short list of calls and printed as a scenario and as a day sheet.
@@ -10,7 +11,7 @@ mod peer;
 mod reached;
 mod sides;
 
-use lists::{say, seed, setting, Idle, Random};
+use lists::{say, seed, setting, Idle, Random, Staff};
 use necktureen::REGISTER_BYTES;
 use reached::{Reached, Told};
 use sides::{List, Pair};
@@ -37,10 +38,10 @@ fn compare_a_list(random: &mut Random, seed: u64, reached: &mut Reached) {
     // The guard's length varies, so that the register starts at every alignment.
     let mut pair = Pair::new(&start, 64 + random.index(16));
     reached.begin();
-    let mut idle = Idle::default();
+    let (mut idle, mut staff) = (Idle::default(), Staff::default());
     let mut calls = Vec::with_capacity(length);
     for _ in 0..length {
-        let call = lists::call(random, &mut idle, &pair.peer, &places);
+        let call = lists::call_or_trial(random, &mut idle, &mut staff, &pair.peer, &places);
         calls.push(call);
         let (before, tally) = (pair.peer_area(call.place()), pair.tallies.of(call.place()));
         match pair.call(&call) {

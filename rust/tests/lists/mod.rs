@@ -1,8 +1,8 @@
 //! Random calls and random registers for the comparison.
 //!
 //! A call is picked with an eye on the register that it meets, so that lists get past the first checks and reach deep
-//! states: long journals, rollovers, held reads, withdrawals, folds, pseudo meters' reads. What an answer should be is not
-//! decided here.
+//! states: long journals, rollovers, held reads, withdrawals, folds, pseudo meters' reads. Trials of such reads stand
+//! anywhere between them where a test asks for them. What an answer should be is not decided here.
 
 // Each test uses its part.
 #![allow(dead_code, unused_imports)]
@@ -15,6 +15,7 @@ mod reads;
 mod registers;
 mod settings;
 mod shorten;
+mod staff;
 
 pub use idle::Idle;
 pub use meter::step_back;
@@ -22,10 +23,20 @@ pub use random::Random;
 pub use registers::{any_register, misfit_register};
 pub use settings::{say, seed, setting};
 pub use shorten::{hexadecimal, shortened};
+pub use staff::Staff;
 
 use meter::{look_at, Meter, Read};
 use necktureen::{Call, AREA_BYTES};
 use reads::submission;
+
+/// A call as below, or a trial of a read that could as well be submitted.
+pub fn call_or_trial(random: &mut Random, idle: &mut Idle, staff: &mut Staff, register: &[u8], places: &[u16]) -> Call {
+    if let Some(call) = staff.after_a_trial(random) {
+        return call;
+    }
+    let call = call(random, idle, register, places);
+    staff.may_try(random, call)
+}
 
 /// A call on one of these places, now and then on any other. Some are of reads that idle terminals still have.
 pub fn call(random: &mut Random, idle: &mut Idle, register: &[u8], places: &[u16]) -> Call {

@@ -29,7 +29,12 @@ impl Journal {
         journal
     }
 
+    /// The standing and withdrawn entries.
+    pub fn kept(&self) -> usize {
+        self.standing.len() + self.withdrawn.len()
+    }
+
     pub fn entries(&self) -> usize {
-        self.standing.len() + self.withdrawn.len() + usize::from(self.held.is_some())
+        self.kept() + usize::from(self.held.is_some())
     }
 }

@@ -5,6 +5,7 @@ mod journal;
 mod profiles;
 mod standpipes;
 mod tallies;
+mod trials;
 
 pub use tallies::Told;
 
@@ -16,6 +17,7 @@ use necktureen::{
 };
 use std::collections::BTreeMap;
 use std::fmt::Write as _;
+use trials::Trials;
 
 const NUMBERS: usize = Number::ALL.len();
 const PLACES: usize = REGISTER_BYTES / AREA_BYTES;
@@ -32,6 +34,7 @@ pub struct Reached {
     /// The volume query that left each place's held read.
     query: [Option<Number>; PLACES],
     dropped: Dropped,
+    trials: Trials,
 }
 
 const DEEP: [&str; 26] = [
@@ -65,19 +68,21 @@ const DEEP: [&str; 26] = [
 
 impl Reached {
     pub fn new() -> Reached {
-        let states = [&DEEP[..], folds::STATES, profiles::STATES, standpipes::STATES, tallies::STATES];
+        let states = [&DEEP[..], folds::STATES, profiles::STATES, standpipes::STATES, tallies::STATES, trials::STATES];
         let deep = states.concat().into_iter().map(|name| (name, 0)).collect();
-        Reached { numbers: [0; NUMBERS], deep, query: [None; PLACES], dropped: Dropped::default() }
+        let (dropped, trials) = (Dropped::default(), Trials::new());
+        Reached { numbers: [0; NUMBERS], deep, query: [None; PLACES], dropped, trials }
     }
 
     pub fn calls(&self) -> u64 {
         self.numbers.iter().sum()
     }
 
-    /// A new list begins: nothing is held, and nothing was dropped.
+    /// A new list begins: nothing is held, nothing was dropped, and nothing was tried.
     pub fn begin(&mut self) {
         self.query = [None; PLACES];
         self.dropped = Dropped::default();
+        self.trials.begin();
     }
 
     fn see(&mut self, name: &'static str) {
@@ -88,10 +93,17 @@ impl Reached {
     /// place's tally.
     pub fn count(&mut self, call: &Call, reply: Reply, before: Option<Area>, after: Option<Area>, told: Told) {
         self.numbers[reply.number() as usize] += 1;
+        for name in self.trials.states(call, reply, before.as_ref(), told) {
+            self.see(name);
+        }
         let place = usize::from(call.place());
         let (Some(before), Some(after), true) = (before, after, place < PLACES) else {
             return;
         };
+        // The states below are those of the calls on a meter, and a trial is none.
+        if matches!(call, Call::Trial { .. }) {
+            return;
+        }
         for name in folds::states(call, reply, &before, &after).into_iter().chain(self.dropped.state(call, reply)) {
             self.see(name);
         }
@@ -195,6 +207,9 @@ impl Reached {
         for (number, count) in self.answered() {
             let _ = writeln!(text, "{count:>9}  {number}");
         }
+        for (number, count) in self.trials.answered() {
+            let _ = writeln!(text, "{count:>9}  a trial, {number}");
+        }
         for (name, count) in &self.deep {
             let _ = writeln!(text, "{count:>9}  {name}");
         }
@@ -204,8 +219,9 @@ impl Reached {
     /// What was never reached.
     pub fn unseen(&self) -> Vec<String> {
         let numbers = self.answered().filter(|row| row.1 == 0).map(|row| row.0.to_string());
+        let tried = self.trials.answered().filter(|row| row.1 == 0).map(|row| format!("a trial, {}", row.0));
         let deep = self.deep.iter().filter(|row| *row.1 == 0).map(|row| row.0.to_string());
-        numbers.chain(deep).collect()
+        numbers.chain(tried).chain(deep).collect()
     }
 }
 

@@ -67,7 +67,7 @@ impl Told {
         10_u32.pow(self.before.dials) - 1
     }
 
-    fn is_unchanged(self) -> bool {
+    pub fn is_unchanged(self) -> bool {
         self.before == self.after
     }
 }
