@@ -1,9 +1,11 @@
 //! Demand 3, played: run A on random lists of calls, run B on those that it keeps of each meter, and the two compared.
-//! The claim itself is proved for every list; this shows that the compiled library keeps it.
+//! Trials stand anywhere in the lists. A trial is no call on the meter: run B does not play it, and the list less its trials
+//! is played as the whole one. The claims themselves are proved for every list; this shows that the compiled library keeps
+//! them.
 
 mod lists;
 
-use lists::{Idle, Random};
+use lists::{Idle, Random, Staff};
 use necktureen::{report, Answer, Call, Number, Reply, Report, AREA_BYTES, REGISTER_BYTES};
 
 /// What a meter's calls and answers come to, and never its bytes.
@@ -44,6 +46,7 @@ impl Ledger {
                 self.folded = self.standing.len() - 3;
                 self.folds += 1;
             }
+            // A trial too: accepted, it counts as nothing.
             _ => {}
         }
     }
@@ -89,14 +92,23 @@ fn kind_2_entries(area: &[u8]) -> Vec<(u16, u32)> {
 /// A random list played on a register of zeros, which it leaves as run A does, with each call's reply.
 fn run_a(seed: u64) -> (Vec<u8>, Vec<(Call, Reply)>) {
     let places = [0, 1, 31, 63, 64, 256, 65_535];
-    let (mut random, mut idle) = (Random::new(seed), Idle::default());
+    let (mut random, mut idle, mut staff) = (Random::new(seed), Idle::default(), Staff::default());
     let mut register = vec![0; REGISTER_BYTES];
-    let exchanges = (0..2_000).map(|_| {
-        let call = lists::call(&mut random, &mut idle, &register, &places);
+    let exchanges = (0..2_400).map(|_| {
+        let call = lists::call_or_trial(&mut random, &mut idle, &mut staff, &register, &places);
         (call, call.make(&mut register))
     });
     let exchanges = exchanges.collect();
     (register, exchanges)
+}
+
+fn is_trial(call: &Call) -> bool {
+    matches!(call, Call::Trial { .. })
+}
+
+/// Whether run B plays a call that run A answered so.
+fn is_picked(call: &Call, reply: Reply) -> bool {
+    !is_trial(call) && matches!(reply.number(), Number::Accepted | Number::Low | Number::High)
 }
 
 #[test]
@@ -109,7 +121,7 @@ fn two_runs_agree_at_every_meter() {
             let (mut in_a, mut in_b) = (Ledger::default(), Ledger::default());
             for &(call, reply) in exchanges.iter().filter(|(call, _)| call.place() == meter) {
                 in_a.enter(call, reply);
-                if matches!(reply.number(), Number::Accepted | Number::Low | Number::High) {
+                if is_picked(&call, reply) {
                     assert_eq!(call.make(&mut b), reply, "seed {seed}, meter {meter}, {call:?}");
                     in_b.enter(call, reply);
                     in_b.is_reported(report(&b, meter));
@@ -129,4 +141,50 @@ fn two_runs_agree_at_every_meter() {
     assert!(folded >= 50 && folded_again >= 25, "{folded} meters were folded, {folded_again} of them again");
     assert!(pseudo >= 50, "{pseudo} pseudo meters have a standing read and a withdrawn one");
     assert!(three_dials >= 20, "{three_dials} meters of three dials turned");
+}
+
+/// How often trials were answered what a submission would write for, and on which meters.
+#[derive(Debug, Default)]
+struct Tried {
+    accepted: usize,
+    turned: usize,
+    queried: usize,
+    accepted_after_a_fold: usize,
+    accepted_on_a_pseudo_meter: usize,
+}
+
+impl Tried {
+    fn count(&mut self, reply: Reply, area: &[u8]) {
+        let Reply::Answer(answer) = reply else { return };
+        let is_accepted = answer.number == Number::Accepted;
+        self.accepted += usize::from(is_accepted);
+        self.turned += usize::from(answer.flag == 1);
+        self.queried += usize::from(matches!(answer.number, Number::Low | Number::High));
+        self.accepted_after_a_fold += usize::from(is_accepted && carry_of(area).is_some());
+        self.accepted_on_a_pseudo_meter += usize::from(is_accepted && area[0] == 7);
+    }
+
+    fn is_enough(&self) -> bool {
+        let meters = [self.accepted_after_a_fold, self.accepted_on_a_pseudo_meter];
+        self.accepted >= 1_500 && self.turned >= 75 && self.queried >= 300 && meters.iter().all(|&count| count >= 100)
+    }
+}
+
+/// From the all-zero register: the answers of all other calls are the same, and so is every byte.
+#[test]
+fn a_list_less_its_trials_is_played_as_the_whole_list() {
+    let mut tried = Tried::default();
+    for seed in 0..60 {
+        let (whole, exchanges) = run_a(seed);
+        let mut less = vec![0; REGISTER_BYTES];
+        for &(call, reply) in &exchanges {
+            if !is_trial(&call) {
+                assert_eq!(call.make(&mut less), reply, "seed {seed}, {call}");
+            } else if let Some(area) = less.chunks_exact(AREA_BYTES).nth(call.place().into()) {
+                tried.count(reply, area);
+            }
+        }
+        assert_eq!(less, whole, "seed {seed}");
+    }
+    assert!(tried.is_enough(), "{tried:?}");
 }
