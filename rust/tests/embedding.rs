@@ -197,15 +197,18 @@ fn the_header_names_every_number_letter_and_indicator() {
     assert_eq!(printed("constants", &printing(&names)), values);
 }
 
-/// A call has the kind that a day sheet has for it.
+/// A call has the kind that a day sheet has for it, and a trial has none.
 #[test]
 fn the_header_names_every_call() {
-    let kinds = each_call(0).map(|call| {
-        let line = call.to_string();
-        let word = line.split(' ').next().expect("its word");
-        (constant(&format!("call {word}")), call.sheet_entry().expect("an entry")[0])
-    });
-    let names = kinds.clone().map(|kind| kind.0);
+    let entries = each_call(0).into_iter().filter_map(|call| Some((call, call.sheet_entry()?)));
+    let kinds: Vec<(String, u8)> = entries
+        .map(|(call, entry)| {
+            let line = call.to_string();
+            let word = line.split(' ').next().expect("its word");
+            (constant(&format!("call {word}")), entry[0])
+        })
+        .collect();
+    let names: Vec<String> = kinds.iter().map(|kind| kind.0.clone()).collect();
     let values: String = kinds.iter().map(|kind| format!("{}\n", kind.1)).collect();
     assert_eq!(printed("calls", &printing(&names)), values);
     let listed = text("c/necktureen.h").matches("    NECKTUREEN_CALL_").count();

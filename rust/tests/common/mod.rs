@@ -162,8 +162,8 @@ pub fn read(day: u16, letter: u8, value: u32) -> Submission {
     Submission { submitted: 60_000, day, value, letter, indicator: indicator::NOT_SET, reread: 0 }
 }
 
-/// One call of each kind on a place.
-pub fn each_call(place: u16) -> [Call; 6] {
+/// One call of each kind on a place, and a trial.
+pub fn each_call(place: u16) -> [Call; 7] {
     [
         Call::Enrol { place, dials: 4, capacity: 1 },
         Call::Submit { place, read: read(300, letter::CYCLIC, 30) },
@@ -171,6 +171,7 @@ pub fn each_call(place: u16) -> [Call; 6] {
         Call::Report { place },
         Call::Fold { place },
         Call::EnrolPseudo { place, dials: 4, capacity: 1 },
+        Call::Trial { place, read: read(300, letter::CYCLIC, 30) },
     ]
 }
 
