@@ -68,6 +68,27 @@ fn a_place_above_255_has_no_entry() {
     }
 }
 
+/// The sheet stays as it was, and the next call is written where the trial would have been.
+#[test]
+fn a_trial_has_no_entry() {
+    let trial = Call::Trial { place: 2, read: read(1000, letter::CYCLIC, 9400) };
+    let mut room = [0xA5; 6];
+    let mut writer = SheetWriter::new(&mut room);
+    assert_eq!(writer.write(&Call::Report { place: 7 }), Ok(()));
+    assert_eq!(trial.sheet_entry(), None);
+    assert_eq!(writer.write(&trial), Err(Unwritten::NoEntry));
+    assert_eq!(writer.sheet(), [4, 7]);
+    assert_eq!(writer.write(&Call::Fold { place: 8 }), Ok(()));
+    assert_eq!(writer.sheet(), [4, 7, 5, 8]);
+    assert_eq!(room[4..], [0xA5, 0xA5]);
+}
+
+#[test]
+fn what_is_not_written_says_why() {
+    assert_eq!(Unwritten::NoEntry.to_string(), "a day sheet holds places up to 255, and no trials");
+    assert_eq!(Unwritten::NoRoom.to_string(), "the day sheet is full");
+}
+
 #[test]
 fn a_sheet_ends_where_its_room_does() {
     let (enrol, report) = (Call::Enrol { place: 0, dials: 4, capacity: 1 }, Call::Report { place: 0 });
@@ -111,6 +132,42 @@ fn text_that_does_not_fit_is_cut_and_the_calls_are_made() {
         assert_eq!(&text[..fits], &whole[..fits]);
         assert!(text[fits..].iter().all(|&byte| byte == 0xA5));
         assert_eq!(register, with_area(5, &area_of(&meter(4, 1), &[])));
+    }
+}
+
+// ---- Trials ----
+
+/// The fields are a submission's, and so is the text but for its first word.
+#[test]
+fn a_trial_is_printed_as_a_submission_is() {
+    let plain = read(1000, letter::CYCLIC, 9400);
+    let full = Submission { submitted: 0, letter: 200, indicator: indicator::TRUE, reread: 1, ..plain };
+    for (place, read, fields) in [
+        (3, plain, "place 3 submitted 60000 day 1000 type C value 9400"),
+        (65_535, full, "place 65535 submitted 0 day 1000 type 200 value 9400 indicator true re-read yes"),
+    ] {
+        assert_eq!(Call::Trial { place, read }.to_string(), format!("trial {fields}"));
+        assert_eq!(Call::Submit { place, read }.to_string(), format!("submit {fields}"));
+    }
+}
+
+#[test]
+fn a_call_names_its_place() {
+    for place in [0, 3, 63, 64, 255, 256, 65_535] {
+        assert_eq!(each_call(place).map(|call| call.place()), [place; 7]);
+    }
+}
+
+/// Made as a value it answers what the function answers, and writes nothing.
+#[test]
+fn a_trial_is_made_as_it_is_called() {
+    let mut register = with_area(3, &area(&[entry(STANDING, 100, 1000, b'I', 0, 0)]));
+    let before = register.clone();
+    for (value, answer) in [(1200, taken(0, 200)), (10_000, refusal(Number::Content))] {
+        let read = read(280, letter::CYCLIC, value);
+        assert_eq!(trial(&register, 3, read), answer);
+        assert_eq!(guarded(&mut register, |r| Call::Trial { place: 3, read }.make(r)), Reply::Answer(answer));
+        assert!(register == before, "{value}");
     }
 }
 
