@@ -26,6 +26,10 @@ fn submission(value: u32) -> Call {
     Call::Submit { place: 0, read: read(300, letter::CYCLIC, value) }
 }
 
+fn trial(value: u32) -> Call {
+    Call::Trial { place: 0, read: read(300, letter::CYCLIC, value) }
+}
+
 fn withdrawal() -> Call {
     Call::Withdraw { place: 0, day: 300, value: 30 }
 }
@@ -33,8 +37,9 @@ fn withdrawal() -> Call {
 /// Calls of every kind, with fields that a tally may be changed by.
 fn every_call() -> Vec<Call> {
     let dials = [0, 2, 3, 4, 9, 10, 255].map(enrolments).concat();
-    let values = [0, 1, 999, 1000, 999_999_999, u32::MAX].map(submission);
-    [&dials[..], &values, &[withdrawal(), Call::Report { place: 0 }, Call::Fold { place: 0 }]].concat()
+    let values = [0, 1, 999, 1000, 999_999_999, u32::MAX];
+    let others = [withdrawal(), Call::Report { place: 0 }, Call::Fold { place: 0 }];
+    [&dials[..], &values.map(submission), &values.map(trial), &others].concat()
 }
 
 /// This number with flags and advances that a tally may be changed by, whatever a call would answer.
@@ -345,6 +350,18 @@ fn a_fold_and_a_report_change_no_tally() {
         for reply in answers(Number::Accepted).into_iter().chain([Reply::Report(reported(300, 255, 1))]) {
             assert_eq!(changed(before, call, reply), before, "{call}, {reply}");
         }
+    }
+}
+
+/// Nothing is told of it, whatever it was answered; a submission of the same read is.
+#[test]
+fn a_trial_changes_no_tally() {
+    for before in BEFORE.map(tally) {
+        for reply in answers(Number::Accepted) {
+            assert_eq!(changed(before, trial(30), reply), before, "{before:?}, {reply}");
+        }
+        let is_enrolled = before != Tally::default();
+        assert_eq!(accepted(before, submission(30), 0, 0) != before, is_enrolled, "{before:?}");
     }
 }
 

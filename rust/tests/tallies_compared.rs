@@ -65,15 +65,15 @@ fn any_call(random: &mut Random, tally: &Tally) -> Call {
     let (place, capacity) = (random.next() as u16, random.next() as u32);
     let dials = if random.once_in(2) { random.byte() } else { random.between(2, 10) as u8 };
     let (day, value) = (random.next() as u16, any_value(random, tally.dials));
-    match random.index(12) {
+    let [letter, indicator, reread] = [0, 1, 2].map(|_| random.byte());
+    let read = Submission { submitted: day, day, value, letter, indicator, reread };
+    match random.index(13) {
         0 => Call::Enrol { place, dials, capacity },
         1 => Call::EnrolPseudo { place, dials, capacity },
         2 => Call::Report { place },
         3 => Call::Fold { place },
-        4..=7 => {
-            let [letter, indicator, reread] = [0, 1, 2].map(|_| random.byte());
-            Call::Submit { place, read: Submission { submitted: day, day, value, letter, indicator, reread } }
-        }
+        4 => Call::Trial { place, read },
+        5..=8 => Call::Submit { place, read },
         _ => Call::Withdraw { place, day, value },
     }
 }
@@ -133,6 +133,7 @@ fn outcome(call: &Call, reply: Reply, before: Tally, after: Tally) -> String {
         (Call::Enrol { .. } | Call::EnrolPseudo { .. }, _) => "an enrolment",
         (Call::Submit { .. }, _) => "a read",
         (Call::Withdraw { .. }, _) => "a withdrawal",
+        (Call::Trial { .. }, _) => "a trial",
         _ => "a fold or a report",
     };
     let made = if before == after { "not made" } else { "made" };
@@ -140,11 +141,12 @@ fn outcome(call: &Call, reply: Reply, before: Tally, after: Tally) -> String {
 }
 
 /// The outcomes that there are.
-const OUTCOMES: [&str; 29] = [
+const OUTCOMES: [&str; 33] = [
     "a broken tally, a fold or a report, not made",
     "a broken tally, a read, not made",
     "a broken tally, a refusal, not made",
     "a broken tally, a report's reply, not made",
+    "a broken tally, a trial, not made",
     "a broken tally, a withdrawal, not made",
     "a broken tally, an enrolment, not made",
     "a tally of no read, a fold or a report, not made",
@@ -152,6 +154,7 @@ const OUTCOMES: [&str; 29] = [
     "a tally of no read, a read, not made",
     "a tally of no read, a refusal, not made",
     "a tally of no read, a report's reply, not made",
+    "a tally of no read, a trial, not made",
     "a tally of no read, a withdrawal, not made",
     "a tally of no read, an enrolment, not made",
     "a tally of reads, a fold or a report, not made",
@@ -159,6 +162,7 @@ const OUTCOMES: [&str; 29] = [
     "a tally of reads, a read, not made",
     "a tally of reads, a refusal, not made",
     "a tally of reads, a report's reply, not made",
+    "a tally of reads, a trial, not made",
     "a tally of reads, a withdrawal, made",
     "a tally of reads, a withdrawal, not made",
     "a tally of reads, an enrolment, not made",
@@ -166,6 +170,7 @@ const OUTCOMES: [&str; 29] = [
     "a tally of zeros, a read, not made",
     "a tally of zeros, a refusal, not made",
     "a tally of zeros, a report's reply, not made",
+    "a tally of zeros, a trial, not made",
     "a tally of zeros, a withdrawal, not made",
     "a tally of zeros, an enrolment, made",
     "a tally of zeros, an enrolment, not made",
