@@ -288,37 +288,40 @@ fn a_fold_is_answered_where_c_says() {
     assert_eq!(printed("fold", code), lines);
 }
 
-/// The same of a trial, on a register that C may not write: its fields are put, a rollover's too, and those of a refusal are
-/// zeros.
+/// The same of a trial, on a constant register: accepted, as a turn too, queried and refused. Two equal ones are answered
+/// the same.
 #[test]
 fn a_trial_is_answered_where_c_says() {
     let code = r#"
 #include <stdio.h>
 #include "necktureen.h"
-static uint8_t reg[NECKTUREEN_REGISTER_BYTES];
-static void tried(const uint8_t *r, size_t length, uint16_t day, uint32_t value, uint8_t letter) {
+static const uint8_t reg[NECKTUREEN_REGISTER_BYTES] = {
+    1, 4, 0x88, 0x13, 0, 0,
+    2, 100, 0, 0xB8, 0x24, 0, 0, NECKTUREEN_INITIAL, 0, 0,
+    2, 24, 1, 0x80, 0x25, 0, 0, NECKTUREEN_CYCLIC, 0, 0,
+    2, 204, 1, 0x48, 0x26, 0, 0, NECKTUREEN_CYCLIC, 0, 0
+};
+static void say(size_t length, uint32_t value) {
     uint8_t f[] = {9, 9, 9};
     int64_t a[] = {9, 9, 9};
-    uint8_t number = necktureen_trial(r, length, 7, day, day, value, letter, NECKTUREEN_TRUE, 0, &f[1], &a[1]);
+    uint8_t number = necktureen_trial(reg, length, 0, 640, 640, value, NECKTUREEN_CYCLIC, NECKTUREEN_NOT_SET, 0,
+                                      &f[1], &a[1]);
     printf("%u %s, %u %u %u, %d %d %d, ", number, necktureen_word(number), f[0], f[1], f[2], (int)a[0], (int)a[1],
            (int)a[2]);
-    printf("%u\n", (unsigned)necktureen_journal(r, length, 7));
+    printf("%u\n", (unsigned)necktureen_journal(reg, sizeof reg, 0));
 }
 int main(void) {
-    uint8_t flag;
-    int64_t advance;
-    necktureen_enrol(reg, sizeof reg, 7, 4, 5000, &flag, &advance);
-    necktureen_submit(reg, sizeof reg, 7, 1000, 1000, 9400, NECKTUREEN_INITIAL, NECKTUREEN_NOT_SET, 0, &flag, &advance);
-    necktureen_submit(reg, sizeof reg, 7, 1180, 1180, 9600, NECKTUREEN_CYCLIC, NECKTUREEN_NOT_SET, 0, &flag, &advance);
-    tried(reg, sizeof reg, 1540, 20, NECKTUREEN_CYCLIC);
-    tried(reg, sizeof reg, 1540, 5000, NECKTUREEN_CYCLIC);
-    tried(reg, sizeof reg, 1540, 20, NECKTUREEN_INITIAL);
-    tried(reg, 512, 1540, 20, NECKTUREEN_CYCLIC);
+    say(sizeof reg, 9900);
+    say(sizeof reg, 50);
+    say(sizeof reg, 50);
+    say(sizeof reg, 9810);
+    say(sizeof reg, 5000);
+    say(512, 50);
     return 0;
 }
 "#;
-    let lines = "0 accepted, 9 1 9, 9 420 9, 26\n20 high, 9 0 9, 9 0 9, 26\n9 AT, 9 0 9, 9 0 9, 26\n\
-        2 misfit, 9 0 9, 9 0 9, 0\n";
+    let lines = "0 accepted, 9 0 9, 9 100 9, 36\n0 accepted, 9 1 9, 9 250 9, 36\n0 accepted, 9 1 9, 9 250 9, 36\n\
+        19 low, 9 0 9, 9 0 9, 36\n18 EF, 9 0 9, 9 0 9, 36\n2 misfit, 9 0 9, 9 0 9, 36\n";
     assert_eq!(printed("tried", code), lines);
 }
 
