@@ -39,7 +39,7 @@ pub const PEER: Side = Side {
     enrol: peer::enrol,
     enrol_pseudo: peer::enrol_pseudo,
     submit: peer::submit,
-    trial: peer_trial,
+    trial: peer::trial,
     withdraw: peer::withdraw,
     fold: peer::fold,
     report: peer::report,
@@ -49,11 +49,6 @@ pub const PEER: Side = Side {
     date_of: peer::calendar::date_of,
     day_of: peer::calendar::day_of,
 };
-
-/// The peer has no trial of its own: it submits on a copy of the register, as the paper puts it. The copy is in its time.
-fn peer_trial(register: &[u8], place: u16, read: Submission) -> Answer {
-    peer::submit(&mut register.to_vec(), place, read)
-}
 
 /// The peer has wide numbers of its own: those of a tally are put in them first, and back after a change.
 fn peer_tally_change(tally: &mut Tally, call: &Call, reply: Reply) {
