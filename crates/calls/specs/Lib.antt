@@ -10,3 +10,4 @@ pub mod FoldKeeps
 pub mod Trials
 pub mod Examples
 pub mod ProfileExamples
+pub mod TrialExamples

@@ -5,6 +5,7 @@ ghost use Rattle.calls.specs.Examples.{ExamplesHold};
 ghost use Rattle.calls.specs.FoldKeeps.{FoldsKeepReports, WithdrawnStayOut};
 ghost use Rattle.calls.specs.Kept.{CallsKeepAreas};
 ghost use Rattle.calls.specs.ProfileExamples.{ProfileExamplesHold};
+ghost use Rattle.calls.specs.TrialExamples.{TrialExamplesHold};
 ghost use Rattle.calls.specs.Trials.{TrialsForetell, TrialsAlterNothing};
 
 // No call damages an area: a register whose areas are all zero or sound stays so.
@@ -50,4 +51,9 @@ pub fn examples_hold()
 // Examples of what a meter's profile means: its kind, the types that it takes, and 29 among the numbers.
 pub fn profile_examples_hold()
     ensures { λ _. ⌜ ProfileExamplesHold ⌝ }
+{}
+
+// Examples of what a trial is, and of what a list is without its trials.
+pub fn trial_examples_hold()
+    ensures { λ _. ⌜ TrialExamplesHold ⌝ }
 {}
