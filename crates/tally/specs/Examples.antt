@@ -9,10 +9,11 @@ use Rattle.terms.specs.declared.profile.Profile.the-variants.{Ordinary, Pseudo}
 use Rattle.terms.specs.Answer.{answer, refusal, reported, refusedReport}
 use Rattle.terms.specs.Number.{accepted, noMeter, damaged, backDated, low, high, notLast, enrolled, noFold}
 use Rattle.calls.specs.declared.call.Call.{Call}
-use Rattle.calls.specs.declared.call.Call.the-variants.{Enrol, Submit, Withdraw, Report as ReportCall, Fold}
+use Rattle.calls.specs.declared.call.Call.the-variants.{Enrol, Submit, Withdraw, Report as ReportCall, Fold, Trial}
 use Rattle.calls.specs.declared.call.Reply.the-variants.{Answered, Reported}
 use Rattle.calls.specs.Play.{Exchange, exchange}
 use Rattle.calls.specs.Examples.{meter, read, submitted, withdrew, asked, foldAnswered}
+use Rattle.calls.specs.TrialExamples.{tried}
 use Rattle.tally.specs.declared.tally.Tally.{Tally}
 use Rattle.tally.specs.Tally.{tallied, zeroTally, tallyNumber, tallyReport}
 use Rattle.tally.specs.Change.{tallyAfter}
@@ -151,6 +152,9 @@ pub record TallyExamplesHold : Type 0 where
   pub fold-changes-nothing : after (foldAnswered accepted) turned ≡ turned
   pub no-fold-changes-nothing : after (foldAnswered noFold) turned ≡ turned
   pub report-changes-nothing : after asked turned ≡ turned
+  -- nor does a trial, which is no call on the meter, whatever it is answered
+  pub trial-changes-nothing : after (tried accepted 1 (pos 700)) turned ≡ turned
+  pub low-trial-changes-nothing : after (tried low 0 (pos 0)) turned ≡ turned
   -- nor does an answer that is none to the call
   pub enrol-reported : tallyAfter (enrolledAs Ordinary 4 .call) (asked .reply) zeroTally ≡ zeroTally
   pub submit-reported : tallyAfter (submitted 1180 9400 0 (pos 200) .call) (asked .reply) one ≡ one
@@ -187,3 +191,5 @@ pub record TallyExamplesHold : Type 0 where
   -- 01: "day (2 bytes, 1 to 65,535)"
   pub last-day : areDated (enrolledAs Ordinary 4 .call ∷ submitted 65535 9200 0 (pos 0) .call ∷ []) ≡ true
   pub past-the-last-day : areDated (enrolledAs Ordinary 4 .call ∷ submitted 65536 9200 0 (pos 0) .call ∷ []) ≡ false
+  -- of a submission alone: a list with any other calls is one that the claim is about
+  pub others-of-any-day : areDated (withdrew 65536 9200 0 (pos 0) .call ∷ asked .call ∷ foldAnswered accepted .call ∷ Trial meter (read 65536 9200) ∷ []) ≡ true

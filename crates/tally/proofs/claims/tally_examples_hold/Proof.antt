@@ -80,6 +80,8 @@ returns c =
       fold-changes-nothing = refl;
       no-fold-changes-nothing = refl;
       report-changes-nothing = refl;
+      trial-changes-nothing = refl;
+      low-trial-changes-nothing = refl;
       enrol-reported = refl;
       submit-reported = refl;
       withdraw-reported = refl;
@@ -110,6 +112,7 @@ returns c =
       nowhere-over-a-year = refl;
       last-day = refl;
       past-the-last-day = refl;
+      others-of-any-day = refl;
     }
 
 pub tally-examples-hold-spec : {M : Type 1} → statement M
