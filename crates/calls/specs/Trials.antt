@@ -18,7 +18,7 @@ TrialsForetell =
     (place : ℕ) (s : Submission) (register : List ℕ)
     → step (Trial place s) register ≡ done (step (Submit place s) register .reply) register
 
--- a list of calls less the trials in it, and so with what was answered
+-- a list of calls less the trials in it, and the same of calls with their answers
 unfoldable pub lessTrials : List Call → List Call
 lessTrials [] = []
 lessTrials (call ∷ calls) = cond (isTrial call) (lessTrials calls) (call ∷ lessTrials calls)

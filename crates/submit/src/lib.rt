@@ -1,4 +1,4 @@
-// Submit: a read judged by every rule in order, and written only after.
+// Submit: a read judged by every rule in order, and written only after. Trial: judged so, and not written.
 mod content;
 pub mod decide;
 mod order;
