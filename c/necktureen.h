@@ -197,10 +197,10 @@ size_t necktureen_journal(const uint8_t *reg, size_t length, uint16_t place);
 
 /* Plays a day sheet on the register and writes a line of text for each call: number, flag, advance; for a report
  * number, standing, flagged, total. A fault of the sheet gives the line "26 0 0" and ends it. It answers the length of
- * the whole text, and writes what `room` bytes hold of it; the calls are made all the same. There is no byte 0 after
- * the text. */
+ * the whole text, and writes what `text_length` bytes hold of it; the calls are made all the same. There is no byte 0
+ * after the text. */
 size_t necktureen_play(const uint8_t *sheet, size_t sheet_length, uint8_t *reg, size_t length, uint8_t *text,
-                       size_t room);
+                       size_t text_length);
 
 /* Changes a tally in place, after every answered call that names its meter: by the call's kind, the dials of an enrolment
  * (of either profile) or the value of a submission, and by what was answered. Pass 0 for dials or value of other calls;

@@ -80,7 +80,7 @@ extern "C" {
         register: *mut u8,
         length: usize,
         text: *mut u8,
-        room: usize,
+        text_length: usize,
     ) -> usize;
 
     pub fn necktureen_tally_change(

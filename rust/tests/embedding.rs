@@ -1,16 +1,18 @@
 //! What the README tells an engineer to do: its code is the files that are built here, its commands print what it shows,
 //! and header and crate declare the functions that the library has, with the same numbers, words and letters.
 
+mod c;
 mod common;
 mod declarations;
 mod readme;
 mod text;
 
+use c::{compiled, printed};
 use common::each_call;
 use necktureen::{indicator, letter, Number, Tally, AREA_BYTES, MISSING, REGISTER_BYTES, SHEET_BYTES, TEXT_BYTES};
 use readme::{blocks, Block};
+use std::collections::BTreeSet;
 use std::mem::{align_of, offset_of, size_of};
-use std::path::PathBuf;
 use std::process::Command;
 use text::{as_text, run, run_example, text};
 
@@ -94,46 +96,29 @@ fn a_register_is_kept_in_a_file() {
 
 // ---- The header ----
 
+/// The names of the functions that the compiled library has.
+fn symbols() -> BTreeSet<String> {
+    let mut nm = Command::new("nm");
+    nm.args(["--defined-only", "--extern-only", "--format=posix", "target/staticlib/libnecktureen.a"]);
+    let lines = as_text(&run(&mut nm, &[]).stdout);
+    lines.lines().filter_map(|line| Some(line.split_once(" T ")?.0.to_string())).collect()
+}
+
+/// With the same arguments, answers and fields, by their types, their names and their order.
 #[test]
 fn header_crate_and_library_declare_the_same_functions() {
     let header = declarations::of_c(&text("c/necktureen.h"));
-    let names = [
-        "date_of",
-        "day_of",
-        "enrol",
-        "enrol_pseudo",
-        "fold",
-        "journal",
-        "play",
-        "report",
-        "submit",
-        "tally_change",
-        "tally_report",
-        "trial",
-        "withdraw",
-    ];
-    let names = names.map(|name| format!("necktureen_{name}"));
-    assert_eq!(header.keys().cloned().collect::<Vec<_>>(), names);
-    assert_eq!(declarations::of_rust(&text("rust/src/boundary.rs")), header);
-    assert_eq!(declarations::of_rust(&text("crates/necktureen/src/lib.rt")), header);
-}
-
-/// Compiles a C program as the README says, with every warning an error; `None` if it does not compile.
-fn compiled(name: &str, code: &str) -> Option<PathBuf> {
-    let program = std::env::temp_dir().join(format!("necktureen-{name}-{}", std::process::id()));
-    let flags = ["-std=c99", "-Wall", "-Wextra", "-Wpedantic", "-Wconversion", "-Werror", "-O2", "-Ic", "-x", "c", "-"];
-    let mut gcc = Command::new("gcc");
-    gcc.args(flags).args(["-x", "none", "target/staticlib/libnecktureen.a", "-o"]).arg(&program);
-    run(&mut gcc, code.as_bytes()).status.success().then_some(program)
-}
-
-/// What a C program prints.
-fn printed(name: &str, code: &str) -> String {
-    let program = compiled(name, code).expect("it compiles");
-    let output = run(&mut Command::new(&program), &[]);
-    std::fs::remove_file(&program).expect("the program is removed");
-    assert!(output.status.success(), "{}", output.status);
-    as_text(&output.stdout)
+    let names = symbols().into_iter().chain(["struct necktureen_tally".to_string()]);
+    assert_eq!(header.keys().cloned().collect::<BTreeSet<_>>(), names.collect());
+    let rust = ["rust/src/boundary.rs", "rust/src/tally.rs"];
+    let rattle = ["crates/necktureen/src/lib.rt", "crates/tally/src/tally.rt"];
+    for files in [rust, rattle] {
+        let declared = declarations::of_rust(&files.map(text).concat());
+        for (name, in_c) in &header {
+            assert_eq!(declared.get(name), Some(in_c), "{name} in {files:?}");
+        }
+        assert_eq!(declared.len(), header.len(), "{files:?}");
+    }
 }
 
 #[test]
