@@ -3,14 +3,20 @@
 //! is played as the whole one. The claims themselves are proved for every list; this shows that the compiled library keeps
 //! them.
 
+mod common;
 mod lists;
 
+use common::is_enrolment;
 use lists::{Idle, Random, Staff};
 use necktureen::{report, Answer, Call, Number, Reply, Report, AREA_BYTES, REGISTER_BYTES};
+use std::collections::HashMap;
 
 /// What a meter's calls and answers come to, and never its bytes.
 #[derive(Default)]
 struct Ledger {
+    /// All that name it, trials among them, and those that were accepted.
+    calls: usize,
+    accepted: usize,
     is_pseudo: bool,
     dials: u32,
     standing: Vec<(u16, u32)>,
@@ -23,7 +29,22 @@ struct Ledger {
 }
 
 impl Ledger {
+    /// "n is from the meter's accepted enrolment; without one nothing is accepted there and both sides of the sum are 0."
     fn enter(&mut self, call: Call, reply: Reply) {
+        self.calls += 1;
+        self.accepted += usize::from(reply.number() == Number::Accepted);
+        self.change(call, reply);
+        if !self.is_enrolled() {
+            let sum = (self.advances, self.span() + 10_i64.pow(self.dials) * self.flags);
+            assert_eq!((self.accepted, sum), (0, (0, 0)), "without an enrolment: {call}");
+        }
+    }
+
+    fn is_enrolled(&self) -> bool {
+        self.dials > 0
+    }
+
+    fn change(&mut self, call: Call, reply: Reply) {
         let Reply::Answer(Answer { number: Number::Accepted, flag, advance }) = reply else { return };
         match call {
             Call::Enrol { dials, .. } => self.dials = u32::from(dials),
@@ -51,12 +72,16 @@ impl Ledger {
         }
     }
 
-    fn holds(&self, area: &[u8]) {
-        let span = match (self.standing.last(), self.standing.first()) {
+    /// The last standing value less the first.
+    fn span(&self) -> i64 {
+        match (self.standing.last(), self.standing.first()) {
             (Some(last), Some(first)) => i64::from(last.1) - i64::from(first.1),
             _ => 0,
-        };
-        assert_eq!(self.advances, span + 10_i64.pow(self.dials) * self.flags, "the sum");
+        }
+    }
+
+    fn holds(&self, area: &[u8]) {
+        assert_eq!(self.advances, self.span() + 10_i64.pow(self.dials) * self.flags, "the sum");
         assert!(self.standing.iter().all(|named| !self.withdrawn.contains(named)), "a withdrawn read stands");
         assert_eq!(kind_2_entries(area), self.standing[self.folded..], "the kind 2 entries");
         let carry = (self.folds > 0).then(|| (self.standing[0].1, self.folded as u16));
@@ -111,36 +136,71 @@ fn is_picked(call: &Call, reply: Reply) -> bool {
     !is_trial(call) && matches!(reply.number(), Number::Accepted | Number::Low | Number::High)
 }
 
+/// Plays run B and holds both runs to the claim at a meter. What the meter's calls in run A come to is handed back.
+fn two_runs(seed: u64, a: &[u8], exchanges: &[(Call, Reply)], meter: u16) -> Ledger {
+    let mut b = vec![0; REGISTER_BYTES];
+    let (mut in_a, mut in_b) = (Ledger::default(), Ledger::default());
+    for &(call, reply) in exchanges.iter().filter(|(call, _)| call.place() == meter) {
+        in_a.enter(call, reply);
+        if is_picked(&call, reply) {
+            assert_eq!(call.make(&mut b), reply, "seed {seed}, meter {meter}, {call:?}");
+            in_b.enter(call, reply);
+            in_b.is_reported(report(&b, meter));
+        }
+    }
+    let area = AREA_BYTES * usize::from(meter)..AREA_BYTES * (usize::from(meter) + 1);
+    assert_eq!(a[area.clone()], b[area.clone()], "seed {seed}, meter {meter}");
+    in_a.holds(&a[area.clone()]);
+    in_b.holds(&b[area]);
+    in_a.is_reported(report(a, meter));
+    in_a
+}
+
 #[test]
 fn two_runs_agree_at_every_meter() {
-    let (mut folded, mut folded_again, mut pseudo, mut three_dials) = (0, 0, 0, 0);
+    let (mut folded, mut folded_again, mut pseudo, mut three_dials, mut unenrolled) = (0, 0, 0, 0, 0);
     for seed in 0..60 {
         let (a, exchanges) = run_a(seed);
-        for meter in [0, 1, 2, 31, 63] {
-            let mut b = vec![0; REGISTER_BYTES];
-            let (mut in_a, mut in_b) = (Ledger::default(), Ledger::default());
-            for &(call, reply) in exchanges.iter().filter(|(call, _)| call.place() == meter) {
-                in_a.enter(call, reply);
-                if is_picked(&call, reply) {
-                    assert_eq!(call.make(&mut b), reply, "seed {seed}, meter {meter}, {call:?}");
-                    in_b.enter(call, reply);
-                    in_b.is_reported(report(&b, meter));
-                }
-            }
-            let area = AREA_BYTES * usize::from(meter)..AREA_BYTES * (usize::from(meter) + 1);
-            assert_eq!(a[area.clone()], b[area.clone()], "seed {seed}, meter {meter}");
-            in_a.holds(&a[area.clone()]);
-            in_b.holds(&b[area]);
-            in_a.is_reported(report(&a, meter));
+        for meter in 0..64 {
+            let in_a = two_runs(seed, &a, &exchanges, meter);
             folded += usize::from(in_a.folds > 0);
             folded_again += usize::from(in_a.folds > 1);
             pseudo += usize::from(in_a.is_pseudo && !in_a.standing.is_empty() && !in_a.withdrawn.is_empty());
             three_dials += usize::from(in_a.dials == 3 && in_a.flags > 0);
+            unenrolled += usize::from(in_a.calls > 0 && !in_a.is_enrolled());
         }
     }
     assert!(folded >= 50 && folded_again >= 25, "{folded} meters were folded, {folded_again} of them again");
     assert!(pseudo >= 50, "{pseudo} pseudo meters have a standing read and a withdrawn one");
     assert!(three_dials >= 20, "{three_dials} meters of three dials turned");
+    assert!(unenrolled >= 50, "{unenrolled} meters were called and never enrolled");
+}
+
+/// The same lists without the enrolments that these meters would take; those with a wrong plate stay. Calls of every sort
+/// then meet a meter that has none.
+#[test]
+fn nothing_is_accepted_without_an_enrolment() {
+    let meters = [0, 1, 31, 63];
+    let mut refused: HashMap<_, usize> = HashMap::new();
+    for seed in 0..60 {
+        let mut a = vec![0; REGISTER_BYTES];
+        let mut exchanges = run_a(seed).1;
+        exchanges.retain(|(call, reply)| {
+            !is_enrolment(call) || reply.number() == Number::Plate || !meters.contains(&call.place())
+        });
+        for (call, reply) in &mut exchanges {
+            *reply = call.make(&mut a);
+        }
+        for meter in meters {
+            let in_a = two_runs(seed, &a, &exchanges, meter);
+            assert_eq!((in_a.is_enrolled(), in_a.accepted), (false, 0), "seed {seed}, meter {meter}");
+        }
+        for (call, _) in exchanges.iter().filter(|(call, _)| meters.contains(&call.place())) {
+            *refused.entry(std::mem::discriminant(call)).or_default() += 1;
+        }
+    }
+    let counts: Vec<usize> = refused.into_values().collect();
+    assert!(counts.len() == 7 && counts.iter().all(|&count| count >= 5), "{counts:?} calls of each sort");
 }
 
 /// How often trials were answered what a submission would write for, and on which meters.
