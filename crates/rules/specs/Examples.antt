@@ -1,9 +1,9 @@
 -- 01, Detection and Volume: examples that fix the settings, the marks of test (1), what an indicator makes of a detection, and which reads have
--- which volume check. No pair at an edge shows the marks: where the other tests hold, test (1) does.
+-- which volume check. Where the other tests hold, test (1) does, so its marks have rows of their own.
 use mathlib.Core.Path.{_≡_}
 use mathlib.Core.Bool.{Bool, true, false}
 use mathlib.Core.List.{List, [], _∷_}
-use Prim.Native.Nat.{ℕ}
+use Prim.Native.Nat.{ℕ, _-_}
 use Rattle.terms.specs.declared.entry.Entry.{Entry}
 use Rattle.terms.specs.declared.submission.Submission.{Submission}
 use Rattle.terms.specs.Entry.{recentOf, kindStanding, indicatorNotSet, indicatorFalse, indicatorTrue}
@@ -12,7 +12,7 @@ use Rattle.rules.specs.declared.detection.Detected.{Detected}
 use Rattle.rules.specs.declared.detection.Detected.the-variants.{NotRollover, Rollover, Indeterminate}
 use Rattle.rules.specs.declared.indicator.Indicated.{Indicated}
 use Rattle.rules.specs.Settings.{stepBack, highMark, lowMark, leastPercent, mostPercent, fraction, wholePercent, lowPercent, highPercent}
-use Rattle.rules.specs.Detection.{isNearTurn}
+use Rattle.rules.specs.Detection.{isNearTurn, detected}
 use Rattle.rules.specs.Indicator.{indicated, indicatedNumber, indicatedFlag}
 use Rattle.rules.specs.Volume.{volumeNumber}
 
@@ -32,6 +32,11 @@ submitted value letter reread =
 -- test (1) of R0 and R1, on a number of dials
 abbrev pub nearTurn : ℕ → ℕ → ℕ → Bool
 nearTurn dials r0 r1 = isNearTurn dials (submitted r1 letterC 0) (stood 181 r0 0)
+
+-- the detection of R1 after R0 and two reads before it, 600 apart, on four dials
+abbrev pub detectedAfter : ℕ → ℕ → Detected
+detectedAfter r0 r1 =
+    detected 4 (submitted r1 letterC 0) (recentOf (stood 181 r0 0 ∷ stood 171 (r0 - 600) 0 ∷ stood 161 (r0 - 1200) 0 ∷ []))
 
 -- the number and the flag for a detection with an indicator
 pub record Word : Type 0 where
@@ -76,6 +81,11 @@ pub record RuleExamplesHold : Type 0 where
   pub nine-at-the-high-mark : nearTurn 9 900000000 99999999 ≡ true
   pub nine-below-the-high-mark : nearTurn 9 899999999 99999999 ≡ false
   pub nine-at-the-low-mark : nearTurn 9 900000000 100000000 ≡ false
+  -- the lowest R0 and the highest R1 of a turn, and their neighbours, which are too far apart
+  pub lowest-before : detectedAfter 9001 0 ≡ Rollover
+  pub too-low-before : detectedAfter 9000 0 ≡ Indeterminate
+  pub highest-after : detectedAfter 9999 998 ≡ Rollover
+  pub too-high-after : detectedAfter 9999 999 ≡ Indeterminate
   -- "Rollover with false, or Not a Rollover with true, is 17. Indeterminate with not set is 18."
   pub rollover-with-false : wordFor Rollover indicatorFalse ≡ word 17 0
   pub not-a-rollover-with-true : wordFor NotRollover indicatorTrue ≡ word 17 0

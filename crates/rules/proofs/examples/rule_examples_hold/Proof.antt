@@ -8,14 +8,14 @@ use Rattle.arithmetic.specs.Advance.{advanceOf}
 use Rattle.terms.specs.Entry.{slotAt, recentOf}
 use Rattle.terms.specs.Letter.{isUnchecked}
 use Rattle.rules.specs.Settings.{stepBack}
-use Rattle.rules.specs.Detection.{isPlain, scaledOf, isNearTurn}
+use Rattle.rules.specs.Detection.{isPlain, scaledOf, isSmallStep, isNotRollover, isNearTurn, isLikeRate, isSmallPart, isSmallTurn, isSmallAdvance, isRollover, detected}
 use Rattle.rules.specs.Indicator.{indicated, indicatedNumber, indicatedFlag}
 use Rattle.rules.specs.Volume.{advanceOver, hasVolumeCheck, hasThreshold, comparedWith, compared, comparedNumber, daysInYear, isWithinCapacity, isLowVolume, isHighVolume, isOverCapacity, volumeNumber}
 use Rattle.rules.proofs.examples.rule_examples_hold.Statement.{statement}
 use Rattle.rules.proofs.examples.rule_examples_hold.Tie as tie
 
 returns : tie.Need-returns
-unfolding isLeap yearLength hasThirty lengthIn monthLength next after dateOf tenTo advanceOf slotAt recentOf isUnchecked stepBack isPlain scaledOf isNearTurn indicated indicatedNumber indicatedFlag advanceOver hasVolumeCheck hasThreshold comparedWith compared comparedNumber daysInYear isWithinCapacity isLowVolume isHighVolume isOverCapacity volumeNumber
+unfolding isLeap yearLength hasThirty lengthIn monthLength next after dateOf tenTo advanceOf slotAt recentOf isUnchecked stepBack isPlain scaledOf isSmallStep isNotRollover isNearTurn isLikeRate isSmallPart isSmallTurn isSmallAdvance isRollover detected indicated indicatedNumber indicatedFlag advanceOver hasVolumeCheck hasThreshold comparedWith compared comparedNumber daysInYear isWithinCapacity isLowVolume isHighVolume isOverCapacity volumeNumber
 returns c =
     record {
       settings-of-four = refl;
@@ -32,6 +32,10 @@ returns c =
       nine-at-the-high-mark = refl;
       nine-below-the-high-mark = refl;
       nine-at-the-low-mark = refl;
+      lowest-before = refl;
+      too-low-before = refl;
+      highest-after = refl;
+      too-high-after = refl;
       rollover-with-false = refl;
       not-a-rollover-with-true = refl;
       indeterminate-with-not-set = refl;
