@@ -2,4 +2,5 @@ pub mod Year
 pub mod Month
 pub mod Date
 pub mod Claims
+pub mod Examples
 pub mod Inner

@@ -2,4 +2,5 @@ pub mod Area
 pub mod Bytes
 pub mod Entries
 pub mod Head
+pub mod Examples
 pub mod Inner

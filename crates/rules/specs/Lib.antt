@@ -3,3 +3,4 @@ pub mod Detection
 pub mod Indicator
 pub mod Volume
 pub mod Edges
+pub mod Examples

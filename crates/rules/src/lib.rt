@@ -2,6 +2,7 @@
 // numbers, never a byte of a register.
 pub mod detection;
 pub mod edges;
+pub mod examples;
 pub mod indicator;
 mod rate;
 pub mod settings;

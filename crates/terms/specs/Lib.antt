@@ -4,3 +4,4 @@ pub mod Number
 pub mod Answer
 pub mod Rule
 pub mod Profile
+pub mod Tables

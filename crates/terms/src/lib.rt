@@ -5,3 +5,4 @@ pub mod letter;
 pub mod number;
 pub mod profile;
 pub mod submission;
+pub mod tables;
