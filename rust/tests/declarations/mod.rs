@@ -51,6 +51,7 @@ fn c_types(of: &str) -> &'static [&'static str] {
         "&mut u8" | "*mut u8" => &["uint8_t *"],
         "*const u8" => &["const uint8_t *"],
         "&mut u16" | "*mut u16" => &["uint16_t *"],
+        "&mut u32" | "*mut u32" => &["uint32_t *"],
         "&mut i64" | "*mut i64" => &["int64_t *"],
         "&mut Tally" | "*mut Tally" => &["struct necktureen_tally *"],
         "&Tally" | "*const Tally" => &["const struct necktureen_tally *"],
