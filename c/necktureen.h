@@ -4,9 +4,9 @@
  *
  * A register is NECKTUREEN_REGISTER_BYTES bytes that the caller lends, all zero at first; place p's meter has the
  * NECKTUREEN_AREA_BYTES bytes from NECKTUREEN_AREA_BYTES * p on. A function that takes a register takes it as a pointer
- * and its length, whatever that is and whatever the bytes are. Enrol, submit, trial, withdraw, fold and report answer one
- * of the numbers below. A number other than 0 changes no byte of the register and puts zeros in the other fields; 19 and
- * 20 store the held read.
+ * and its length, whatever that is and whatever the bytes are. Enrol, submit, trial, withdraw, fold, report and search
+ * answer one of the numbers below. A number other than 0 changes no byte of the register and puts zeros in the other
+ * fields; 19 and 20 store the held read.
  *
  * Pointers: a pointer and its length belong together. What is written (register, text, tally, other fields) is valid, apart
  * from each other and from all else that is lent. No pointer is kept, nothing is allocated, and nothing is remembered
@@ -194,6 +194,12 @@ uint8_t necktureen_report(const uint8_t *reg, size_t length, uint16_t place, uin
 
 /* How many bytes the meter's journal takes, from reg + NECKTUREEN_AREA_BYTES * place on; 0 where a report is refused. */
 size_t necktureen_journal(const uint8_t *reg, size_t length, uint16_t place);
+
+/* Searches for the standing read of a day, from the newest back. The number is a report's: 0, 2, 3 or 4. Puts 1 and the
+ * read's value, type letter, indicator and flag if one stands on the day, else 0 and zeros; and how many standing days
+ * were compared, those later than the day and one more if any is not later. Every field is put, whatever the number. */
+uint8_t necktureen_search(const uint8_t *reg, size_t length, uint16_t place, uint16_t day, uint8_t *found,
+                          uint32_t *value, uint8_t *letter, uint8_t *indicator, uint8_t *flag, uint8_t *compared);
 
 /* Plays a day sheet on the register and writes a line of text for each call: number, flag, advance; for a report
  * number, standing, flagged, total. A fault of the sheet gives the line "26 0 0" and ends it. It answers the length of

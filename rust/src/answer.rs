@@ -1,6 +1,6 @@
 //! What the calls answer.
 
-use crate::Number;
+use crate::{Number, Read};
 use core::fmt;
 
 /// The answer to an enrolment, a submission, a withdrawal or a fold. Flag and advance are 0 unless accepted.
@@ -27,6 +27,18 @@ pub struct Report {
     pub flagged: u16,
     /// How far the dials went from the first standing read to the last, in m³.
     pub total: i64,
+}
+
+/// The answer to a search for the standing read of a day. Nothing is found and 0 are compared unless accepted.
+#[derive(Clone, Copy, Debug, PartialEq, Eq)]
+#[must_use = "a search may be a refusal"]
+pub struct Search {
+    /// Accepted, or why there is no journal to search.
+    pub number: Number,
+    /// The read that stands on the day.
+    pub found: Option<Read>,
+    /// How many standing days were compared: those later than the day, and one more if any is not later.
+    pub compared: u8,
 }
 
 /// The answer to a [`Call`](crate::Call).
@@ -67,6 +79,19 @@ impl fmt::Display for Report {
         match number {
             Number::Accepted => write!(f, "{number}, {standing} standing, {flagged} flagged, total {total}"),
             refusal => write!(f, "{refusal}"),
+        }
+    }
+}
+
+impl fmt::Display for Search {
+    /// As in `0 accepted, 2 compared, day 280, value 20, cyclic, not set, flag 0`, `0 accepted, 1 compared, none found` or
+    /// `3 no meter`.
+    fn fmt(&self, f: &mut fmt::Formatter<'_>) -> fmt::Result {
+        let Search { number, found, compared } = *self;
+        match (number, found) {
+            (Number::Accepted, Some(read)) => write!(f, "{number}, {compared} compared, {read}"),
+            (Number::Accepted, None) => write!(f, "{number}, {compared} compared, none found"),
+            (refusal, _) => write!(f, "{refusal}"),
         }
     }
 }

@@ -74,6 +74,19 @@ extern "C" {
 
     pub fn necktureen_journal(register: *const u8, length: usize, place: u16) -> usize;
 
+    pub fn necktureen_search(
+        register: *const u8,
+        length: usize,
+        place: u16,
+        day: u16,
+        found: *mut u8,
+        value: *mut u32,
+        letter: *mut u8,
+        indicator: *mut u8,
+        flag: *mut u8,
+        compared: *mut u8,
+    ) -> u8;
+
     pub fn necktureen_play(
         sheet: *const u8,
         sheet_length: usize,

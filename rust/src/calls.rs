@@ -5,7 +5,7 @@
 //! of them.
 
 use crate::boundary;
-use crate::{Answer, Number, Report, Submission, AREA_BYTES};
+use crate::{Answer, Number, Read, Report, Search, Submission, AREA_BYTES};
 
 /// Enrols a meter of 3 to 9 dials and a capacity in m³ a year at a place.
 pub fn enrol(register: &mut [u8], place: u16, dials: u8, capacity: u32) -> Answer {
@@ -117,6 +117,31 @@ pub fn journal(register: &[u8], place: u16) -> &[u8] {
     let length = unsafe { boundary::necktureen_journal(register.as_ptr(), register.len(), place) };
     let start = AREA_BYTES * usize::from(place);
     register.get(start..).and_then(|area| area.get(..length)).unwrap_or(&[])
+}
+
+/// Searches for the meter's standing read of a day, and answers with it how many standing days were compared. It is asked
+/// where a [`report`] is: the number is a report's.
+pub fn search(register: &[u8], place: u16, day: u16) -> Search {
+    let (at, length) = (register.as_ptr(), register.len());
+    let (mut found, mut value, mut compared) = (0, 0, 0);
+    let (mut letter, mut indicator, mut flag) = (0, 0, 0);
+    // SAFETY: the register's own pointer and length, and six locals.
+    let number = unsafe {
+        boundary::necktureen_search(
+            at,
+            length,
+            place,
+            day,
+            &mut found,
+            &mut value,
+            &mut letter,
+            &mut indicator,
+            &mut flag,
+            &mut compared,
+        )
+    };
+    let found = (found == 1).then_some(Read { day, value, letter, indicator, flag });
+    Search { number: Number::answered(number), found, compared }
 }
 
 /// Plays a day sheet on a register, each call on what the last one left, and writes a line of text for each: number,

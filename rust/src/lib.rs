@@ -6,6 +6,8 @@
 //!
 //! [`trial`] answers what [`submit`] would, and writes nothing: for those who want to know before they commit.
 //!
+//! [`search`] answers which read of a meter stands on a day, and how many standing days were compared to find it.
+//!
 //! A site that has no dial is enrolled by [`enrol_pseudo`]. Such a pseudo meter takes initial and final reads only, and is
 //! in all else a meter as any other.
 //!
@@ -40,9 +42,9 @@ mod number;
 mod sheet;
 mod tally;
 
-pub use answer::{Answer, Reply, Report};
+pub use answer::{Answer, Reply, Report, Search};
 pub use call::{Call, Submission, MISSING};
-pub use calls::{enrol, enrol_pseudo, fold, journal, play, report, submit, trial, withdraw};
+pub use calls::{enrol, enrol_pseudo, fold, journal, play, report, search, submit, trial, withdraw};
 pub use date::{date_of, day_of, Date};
 pub use journal::{entries, Entries, Entry, Read};
 pub use number::{Number, UnknownNumber};

@@ -62,6 +62,8 @@ const LENT: &str = r#"
 #include "necktureen.h"
 struct lent {
     uint8_t sheet[40000], reg[40000], text[40000], flag[40000], month, day_of_month;
+    uint8_t found, letter, indicator, compared;
+    uint32_t value;
     uint16_t standing, flagged, year;
     int64_t advance, total;
     struct necktureen_tally tally;
@@ -82,6 +84,8 @@ static void lend(void) {
     memcpy(at.reg + 512 * 9, journal, sizeof journal);
     at.reg[512 * 9 + 36] = 2;
     at.flag[0] = at.month = at.day_of_month = 99;
+    at.found = at.letter = at.indicator = at.compared = 99;
+    at.value = 99;
     at.standing = at.flagged = at.year = 99;
     at.advance = at.total = 99;
     at.tally.dials = 4;
@@ -113,6 +117,11 @@ static void say(long answer) {
     SAY(standing);
     SAY(flagged);
     SAY(total);
+    SAY(found);
+    SAY(value);
+    SAY(letter);
+    SAY(indicator);
+    SAY(compared);
     SAY(tally.dials);
     SAY(tally.standing);
     SAY(tally.flagged);
@@ -180,6 +189,11 @@ fn calls() -> Vec<Called> {
             "0, standing 4, flagged 1, total 900",
         ),
         Called::new("journal", "at.reg, 32768, 9", "46"),
+        Called::new(
+            "search",
+            "at.reg, 32768, 9, 1180, &at.found, &at.value, &at.letter, &at.indicator, at.flag, &at.compared",
+            "0, flag 0: 0, found 1, value 9400, letter 67, indicator 2, compared 3",
+        ),
         Called::new(
             "play",
             "at.sheet, 10, at.reg, 32768, at.text, 12",

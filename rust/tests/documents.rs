@@ -40,8 +40,10 @@ fn names_in(folder: &str) -> BTreeSet<String> {
     paths.map(|path| path.file_stem().expect("a name").to_string_lossy().into_owned()).collect()
 }
 
+/// The README and the pages of these folders.
 fn documents() -> Vec<String> {
-    let docs = names_in("docs").into_iter().map(|name| format!("docs/{name}.md"));
+    let pages = |folder| names_in(folder).into_iter().map(move |name| format!("{folder}/{name}.md"));
+    let docs = ["docs", "docs/guide"].into_iter().flat_map(pages).filter(|page| repository().join(page).is_file());
     docs.chain(["README.md".to_string()]).collect()
 }
 

@@ -1,5 +1,5 @@
-//! What the README tells an engineer to do: its code is the files that are built here, its commands print what it shows,
-//! and header and crate declare the functions that the library has, with the same numbers, words and letters.
+//! What the README and the guide tell an engineer to do: their code is the files that are built here, their commands print
+//! what they show, and header and crate declare the functions that the library has, with the same numbers, words and letters.
 
 mod c;
 mod common;
@@ -16,21 +16,25 @@ use std::mem::{align_of, offset_of, size_of};
 use std::process::Command;
 use text::{as_text, run, run_example, text};
 
-// ---- The README ----
+// ---- The README and the guide ----
+
+const PAGES: [&str; 2] = ["README.md", "docs/guide/search.md"];
 
 #[test]
 fn the_readme_shows_the_examples_as_they_are_built() {
     let mut files = vec![
         "c/example.c",
         "c/poll.c",
+        "c/search.c",
         "c/trial.c",
         "rust/examples/embed.rs",
         "rust/examples/fold.rs",
         "rust/examples/keep.rs",
         "rust/examples/poll.rs",
+        "rust/examples/search.rs",
         "rust/examples/trial.rs",
     ];
-    for block in blocks(&text("README.md")) {
+    for block in PAGES.iter().flat_map(|page| blocks(&text(page))) {
         if let Block::Fenced { word, text: code } = block {
             if word == "text" {
                 continue;
@@ -39,7 +43,7 @@ fn the_readme_shows_the_examples_as_they_are_built() {
             files.remove(position.unwrap_or_else(|| panic!("no example is this {word}:\n{code}")));
         }
     }
-    assert!(files.is_empty(), "README.md does not show {files:?}");
+    assert!(files.is_empty(), "no page shows {files:?}");
 }
 
 /// Those that prove, and the long comparison, are left to the gate.
@@ -47,10 +51,10 @@ fn is_slow(command: &str) -> bool {
     ["rt ", "bash .ci/run", "NECKTUREEN_CALLS"].iter().any(|word| command.starts_with(word))
 }
 
-/// Every other command of the README ends well, by the plainest shell, and prints what is shown after it.
+/// Every other command of a page ends well, by the plainest shell, and prints what is shown after it.
 #[test]
 fn the_commands_of_the_readme_print_what_it_shows() {
-    let blocks = blocks(&text("README.md"));
+    let blocks: Vec<Block> = PAGES.iter().flat_map(|page| blocks(&text(page))).collect();
     let shown = blocks.iter().filter(|block| matches!(block, Block::Fenced { word, .. } if word == "text")).count();
     let mut compared = 0;
     for (position, block) in blocks.iter().enumerate() {
@@ -153,6 +157,15 @@ fn the_trial_in_c_has_no_warning() {
         tried 6120: 20 high, flag 0, advance 0\ntried 1620: 0 accepted, flag 0, advance 220\n\
         sent 1620: 0 accepted, flag 0, advance 220\n";
     assert_eq!(printed("trial", &text("c/trial.c")), lines);
+}
+
+/// A back office asks for days on which a read stands and for others.
+#[test]
+fn the_search_in_c_has_no_warning() {
+    let lines = "place 0, day 1361: 0 accepted, 1 compared\nplace 0, day 1360: 0 accepted, 1 compared, C 1620\n\
+        place 0, day 1180: 0 accepted, 2 compared, C 1400\nplace 0, day 1179: 0 accepted, 3 compared\n\
+        place 0, day 999: 0 accepted, 3 compared\nplace 1, day 1180: 3 no meter, 0 compared\n";
+    assert_eq!(printed("search", &text("c/search.c")), lines);
 }
 
 /// A program that prints each of these C expressions.
@@ -308,6 +321,54 @@ int main(void) {
     let lines = "0 accepted, 9 0 9, 9 100 9, 36\n0 accepted, 9 1 9, 9 250 9, 36\n0 accepted, 9 1 9, 9 250 9, 36\n\
         19 low, 9 0 9, 9 0 9, 36\n18 EF, 9 0 9, 9 0 9, 36\n2 misfit, 9 0 9, 9 0 9, 36\n";
     assert_eq!(printed("tried", code), lines);
+}
+
+/// The same of a search, on a constant register: a read found, with every field, none found, and each refusal, with zeros.
+#[test]
+fn a_search_is_answered_where_c_says() {
+    let code = r#"
+#include <stdio.h>
+#include "necktureen.h"
+static const uint8_t reg[NECKTUREEN_REGISTER_BYTES] = {
+    1, 4, 0x88, 0x13, 0, 0,
+    2, 100, 0, 0xB8, 0x24, 0, 0, NECKTUREEN_INITIAL, 0, 0,
+    2, 24, 1, 0x80, 0x25, 0, 0, NECKTUREEN_CYCLIC, 0, 0,
+    2, 204, 1, 0x48, 0, 0, 0, NECKTUREEN_CUSTOMER, NECKTUREEN_TRUE, 1,
+    [NECKTUREEN_AREA_BYTES] = 9
+};
+static void say(size_t length, uint16_t place, uint16_t day) {
+    uint8_t b[] = {9, 9, 9, 9, 9, 9, 9, 9, 9, 9, 9};
+    uint32_t v[] = {9, 9, 9};
+    uint8_t number = necktureen_search(reg, length, place, day, &b[1], &v[1], &b[3], &b[5], &b[7], &b[9]);
+    printf("%u,", number);
+    for (int i = 0; i < 11; i++)
+        printf(" %u", b[i]);
+    printf(", %u %u %u\n", (unsigned)v[0], (unsigned)v[1], (unsigned)v[2]);
+}
+int main(void) {
+    say(sizeof reg, 0, 460);
+    say(sizeof reg, 0, 280);
+    say(sizeof reg, 0, 99);
+    say(512, 0, 460);
+    say(sizeof reg, 2, 460);
+    say(sizeof reg, 64, 460);
+    say(sizeof reg, 1, 460);
+    return 0;
+}
+"#;
+    let line = |number, [found, letter, indicator, flag, compared]: [u8; 5], value| {
+        format!("{number}, 9 {found} 9 {letter} 9 {indicator} 9 {flag} 9 {compared} 9, 9 {value} 9\n")
+    };
+    let lines = [
+        line(0, [1, b'U', 2, 1, 1], 72),
+        line(0, [1, b'C', 0, 0, 2], 9600),
+        line(0, [0, 0, 0, 0, 3], 0),
+        line(2, [0; 5], 0),
+        line(3, [0; 5], 0),
+        line(3, [0; 5], 0),
+        line(4, [0; 5], 0),
+    ];
+    assert_eq!(printed("searched", code), lines.concat());
 }
 
 /// The same of the enrolment of a pseudo meter, which then refuses a cyclic read and takes an initial one.

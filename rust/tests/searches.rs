@@ -1,52 +1,17 @@
 //! The search for a standing read of a day: what it finds and how many standing days it compares, of all 65,536 days. The
-//! program `searches` has it answer for the journals of a register; the second writing and rows by hand say what it should.
+//! library answers on registers in memory that cannot be written; the second writing and rows by hand say what it should.
 
 mod common;
 mod lists;
 mod peer;
+mod sealed;
 
-use common::{area, carried, carry, entry, gone, read, refusal, stands, with_area, zeros, HELD, STANDING, WITHDRAWN};
-use lists::{any_register, say, seed, Random};
-use necktureen::{indicator, submit, Number, Submission, AREA_BYTES, REGISTER_BYTES};
-use peer::Search;
-use std::io::Write;
-use std::path::Path;
-use std::process::{Command, Stdio};
+use common::{area, carried, carry, entry, gone, read, refusal, stands, with_area, HELD, STANDING, WITHDRAWN};
+use lists::{any_register, misfit_register, say, seed, Random};
+use necktureen::{indicator, search, submit, Number, Search, Submission, AREA_BYTES, REGISTER_BYTES};
+use sealed::Sealed;
 
 const REGISTERS: usize = 24;
-
-// ---- The program ----
-
-/// What the program prints of a register. It is there once `rt check` or `rt ci` has passed.
-fn printed(register: &[u8]) -> String {
-    let program = Path::new(env!("CARGO_MANIFEST_DIR")).join("../target/bin/searches");
-    let mut child = Command::new(&program)
-        .stdin(Stdio::piped())
-        .stdout(Stdio::piped())
-        .spawn()
-        .unwrap_or_else(|e| panic!("{}: {e}", program.display()));
-    child.stdin.take().expect("its input").write_all(register).expect("a register that is read whole");
-    let out = child.wait_with_output().expect("its output");
-    assert!(out.status.success(), "{}", out.status);
-    String::from_utf8(out.stdout).expect("lines")
-}
-
-/// Its lines for the journal at a place: a day that a read is found on, and one that is compared with another number of
-/// days than the day before it.
-fn lines(place: u16, answers: &[Search]) -> String {
-    let mut lines = String::new();
-    let mut before = 0;
-    for (day, Search { found, compared }) in answers.iter().enumerate() {
-        if let Some(read) = found {
-            let (value, letter) = (read.value, read.letter);
-            lines += &format!("{place} {day} {compared} {value} {letter} {} {}\n", read.indicator, read.flag);
-        } else if *compared != before {
-            lines += &format!("{place} {day} {compared}\n");
-        }
-        before = *compared;
-    }
-    lines
-}
 
 // ---- Beside the second writing ----
 
@@ -60,6 +25,8 @@ struct Seen {
     held: usize,
     fifty_standing: usize,
     found: usize,
+    no_meter: usize,
+    damaged: usize,
 }
 
 impl Seen {
@@ -77,6 +44,11 @@ impl Seen {
         self.found += answers.iter().filter(|answer| answer.found.is_some()).count();
     }
 
+    fn count_refused(&mut self, number: Number) {
+        self.no_meter += usize::from(number == Number::NoMeter);
+        self.damaged += usize::from(number == Number::Damaged);
+    }
+
     fn reached_all(&self) -> bool {
         let each = [
             self.none_standing,
@@ -85,48 +57,99 @@ impl Seen {
             self.held,
             self.fifty_standing,
             self.found,
+            self.no_meter,
+            self.damaged,
         ];
         each.iter().all(|&seen| seen > 0)
     }
 }
 
-/// The lines of a whole register. A place without a sound journal has none.
-fn expected(register: &[u8], seen: &mut Seen) -> String {
-    let mut expected = String::new();
-    for (place, area) in (0..).zip(register.chunks_exact(AREA_BYTES)) {
-        if let Some(answers) = peer::search_each_day(register, place) {
-            seen.count(area, &answers);
-            expected += &lines(place, &answers);
-        }
-    }
-    expected
+fn refused(number: Number) -> Search {
+    Search { number, found: None, compared: 0 }
 }
 
-/// Every day is asked for: those before the first standing one, between any two, on each, and after the last.
+/// Days over the whole range, the first and the last among them.
+fn some_days() -> impl Iterator<Item = u16> {
+    (0..=u16::MAX).step_by(255)
+}
+
+/// Every day is asked for where a journal is: those before the first standing one, between any two, on each, and after the
+/// last. Where none is, every day has the same answer, and some are asked for.
+fn compare(register: &[u8], place: u16, seen: &mut Seen) {
+    match peer::search_each_day(register, place) {
+        Ok(answers) => {
+            let area = &register[AREA_BYTES * usize::from(place)..][..AREA_BYTES];
+            seen.count(area, &answers);
+            for (day, answer) in (0..=u16::MAX).zip(answers) {
+                assert_eq!(search(register, place, day), answer, "place {place}, day {day}, {area:?}");
+            }
+        }
+        Err(number) => {
+            seen.count_refused(number);
+            for day in some_days() {
+                assert_eq!(search(register, place, day), refused(number), "place {place}, day {day}");
+            }
+        }
+    }
+}
+
 #[test]
 fn the_search_answers_as_the_peer_does() {
     let seed = seed();
     let mut random = Random::new(seed);
     let mut seen = Seen::default();
     for _ in 0..REGISTERS {
-        let register = any_register(&mut random);
-        let expected = expected(&register, &mut seen);
-        assert!(printed(&register) == expected, "another answer than the peer's, seed {seed}");
+        let register = Sealed::of(&any_register(&mut random));
+        for place in (0..=64).chain([255, 256, 65_535]) {
+            compare(register.bytes(), place, &mut seen);
+        }
     }
     say(&format!("searched on every day, seed {seed}: {seen:?}"));
     assert!(seen.reached_all(), "never reached, seed {seed}: {seen:?}");
 }
 
-/// What `rt` holds the program to.
+/// A register of another length has no place that is searched.
 #[test]
-fn the_gates_own_run_is_right() {
-    let mut register = include_bytes!("../../crates/searches/stdin").to_vec();
-    register.resize(REGISTER_BYTES, 0);
-    let lines = expected(&register, &mut Seen::default());
-    assert_eq!(lines, include_str!("../../crates/searches/stdout"));
+fn a_misfit_register_is_not_searched() {
+    let whole = with_area(0, &area(&three_standing()));
+    for length in [0, 1, AREA_BYTES, REGISTER_BYTES - 1, REGISTER_BYTES + 1, 2 * REGISTER_BYTES] {
+        let mut bytes = whole.clone();
+        bytes.resize(length, 0);
+        let register = Sealed::of(&bytes);
+        for place in [0, 63, 64, 65_535] {
+            for day in [0, 99, 100, 280, 65_535] {
+                assert_eq!(search(register.bytes(), place, day), refused(Number::Misfit), "{length} bytes, {place}");
+            }
+        }
+    }
+    let mut random = Random::new(7);
+    for _ in 0..100 {
+        let register = misfit_register(&mut random);
+        assert_eq!(search(&register, random.index(70) as u16, 100), refused(Number::Misfit), "{}", register.len());
+    }
 }
 
 // ---- By hand ----
+
+/// A row for each day that a read is found on, and for each that is compared with another number of days than the day
+/// before it. Of a read value, type, indicator and flag.
+type Row = (u16, u8, Option<(u32, u8, u8, u8)>);
+
+fn rows(register: &[u8], place: u16) -> Vec<Row> {
+    let register = Sealed::of(register);
+    let mut rows = Vec::new();
+    let mut before = 0;
+    for day in 0..=u16::MAX {
+        let Search { number, found, compared } = search(register.bytes(), place, day);
+        assert_eq!(number, Number::Accepted, "day {day}");
+        assert!(found.map_or(true, |read| read.day == day), "day {day}");
+        if found.is_some() || compared != before {
+            rows.push((day, compared, found.map(|read| (read.value, read.letter, read.indicator, read.flag))));
+        }
+        before = compared;
+    }
+    rows
+}
 
 /// Three reads stand; a withdrawn one comes before each of them and after the last, and one is held.
 fn three_standing() -> Vec<[u8; 10]> {
@@ -142,31 +165,93 @@ fn three_standing() -> Vec<[u8; 10]> {
     ]
 }
 
+const THREE_FOUND: [Row; 4] = [
+    (0, 3, None),
+    (100, 3, Some((10, b'I', 0, 0))),
+    (280, 2, Some((20, b'C', 0, 0))),
+    (460, 1, Some((30, b'U', 1, 0))),
+];
+
 #[test]
 fn only_standing_days_are_compared() {
-    let lines = "9 0 3\n9 100 3 10 73 0 0\n9 280 2 20 67 0 0\n9 460 1 30 85 1 0\n";
-    assert_eq!(printed(&with_area(9, &area(&three_standing()))), lines);
+    assert_eq!(rows(&with_area(9, &area(&three_standing())), 9), THREE_FOUND);
 }
 
 /// The folded reads are no entries, and are not compared.
 #[test]
 fn folded_reads_are_not_compared() {
-    let lines = "0 0 3\n0 100 3 10 73 0 0\n0 280 2 20 67 0 0\n0 460 1 30 85 1 0\n";
-    assert_eq!(printed(&with_area(0, &carried(carry(5, 99, 1), &three_standing()))), lines);
+    assert_eq!(rows(&with_area(0, &carried(carry(5, 99, 1), &three_standing())), 0), THREE_FOUND);
+}
+
+/// A flagged read with its indicator, between withdrawn ones and one that is held; and an F alone after a carry.
+#[test]
+fn a_find_has_every_field() {
+    let turned = [
+        entry(WITHDRAWN, 90, 7000, b'I', 0, 0),
+        entry(STANDING, 100, 9200, b'I', 0, 0),
+        gone(280, 9300),
+        stands(280, 9400),
+        entry(STANDING, 460, 100, b'U', 2, 1),
+        gone(640, 310),
+        entry(HELD, 640, 900, b'C', 0, 0),
+    ];
+    let expected = [
+        (0, 3, None),
+        (100, 3, Some((9200, b'I', 0, 0))),
+        (280, 2, Some((9400, b'C', 0, 0))),
+        (460, 1, Some((100, b'U', 2, 1))),
+    ];
+    assert_eq!(rows(&with_area(0, &area(&turned)), 0), expected);
+    let last = [entry(STANDING, 65_535, 50, b'F', 0, 0)];
+    let expected = [(0, 1, None), (65_535, 1, Some((50, b'F', 0, 0)))];
+    assert_eq!(rows(&with_area(2, &carried(carry(40, 3, 2), &last)), 2), expected);
 }
 
 #[test]
 fn where_none_stands_nothing_is_compared() {
-    assert_eq!(printed(&zeros()), "");
-    assert_eq!(printed(&with_area(0, &area(&[]))), "");
-    assert_eq!(printed(&with_area(63, &area(&[gone(100, 10), gone(100, 11)]))), "");
+    assert_eq!(rows(&with_area(0, &area(&[])), 0), []);
+    assert_eq!(rows(&with_area(63, &area(&[gone(100, 10), gone(100, 11)])), 63), []);
+}
+
+#[test]
+fn where_no_meter_is_nothing_is_searched() {
+    let register = with_area(9, &area(&three_standing()));
+    for day in some_days().chain([100, 280, 460]) {
+        for place in [0, 8, 10, 63, 64, 65_535] {
+            assert_eq!(search(&register, place, day), refused(Number::NoMeter), "place {place}, day {day}");
+        }
+    }
+}
+
+/// One byte after the last entry, and the reads are not told any more.
+#[test]
+fn a_damaged_area_is_not_searched() {
+    let mut register = with_area(9, &area(&three_standing()));
+    register[AREA_BYTES * 10 - 1] = 1;
+    for day in some_days().chain([100, 280, 460]) {
+        assert_eq!(search(&register, 9, day), refused(Number::Damaged), "day {day}");
+    }
 }
 
 #[test]
 fn the_first_and_the_last_day_are_found() {
     let journal = [entry(STANDING, 1, 10, b'O', 0, 0), gone(65_535, 11), stands(65_535, 12)];
-    let lines = "63 0 2\n63 1 2 10 79 0 0\n63 65535 1 12 67 0 0\n";
-    assert_eq!(printed(&with_area(63, &area(&journal))), lines);
+    let expected = [(0, 2, None), (1, 2, Some((10, b'O', 0, 0))), (65_535, 1, Some((12, b'C', 0, 0)))];
+    assert_eq!(rows(&with_area(63, &area(&journal)), 63), expected);
+}
+
+/// As a line of text.
+#[test]
+fn an_answer_is_shown_in_words() {
+    let register = with_area(9, &area(&three_standing()));
+    let shown = [
+        (9, 280, "0 accepted, 2 compared, day 280, value 20, cyclic, not set, flag 0"),
+        (9, 281, "0 accepted, 2 compared, none found"),
+        (8, 280, "3 no meter"),
+    ];
+    for (place, day, line) in shown {
+        assert_eq!(search(&register, place, day).to_string(), line);
+    }
 }
 
 /// What the calls answer, whatever the search compares: a month that is sent again, read by read, with withdrawn reads

@@ -1,3 +1,4 @@
 pub mod Part
+pub mod Search
 pub mod Withdrawal
 pub mod Inner

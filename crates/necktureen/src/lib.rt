@@ -4,9 +4,12 @@ ghost use mathlib.Core.Path.{_≡_};
 ghost use Rattle.calendar.specs.Date.{date, dateOf, dayOf};
 ghost use Rattle.terms.specs.Answer.{answer, reported};
 ghost use Rattle.calls.specs.Calls.{done, step, journalLength};
+ghost use Rattle.meter.specs.Search.{searchOf};
 ghost use Rattle.sheet.specs.Play.{Played};
 ghost use Rattle.tally.specs.Tally.{tallyReport};
+ghost use Rattle.necktureen.specs.Search.{searchFields, fieldsOf};
 ghost use Rattle.necktureen.specs.Told.{toldOf};
+use crate::search::search_fields;
 use crate::told::told;
 use calendar::date::Date;
 use calls::call::Call;
@@ -16,6 +19,7 @@ use tally::tally::Tally;
 use terms::profile::Profile;
 use terms::submission::Submission;
 
+pub mod search;
 pub mod told;
 
 #[no_mangle]
@@ -174,6 +178,31 @@ pub extern "C" fn necktureen_journal(register: &[u8], place: u16) -> usize
     ensures { λ r. ⌜ r ≡ journalLength place (now (register .entry)) ⌝ }
 {
     meter::part::journal_length(register, place)
+}
+
+// The read that stands on a day, and how many standing days were compared to find it. All fields are put always.
+#[no_mangle]
+pub extern "C" fn necktureen_search(
+    register: &[u8],
+    place: u16,
+    day: u16,
+    found: &mut u8,
+    value: &mut u32,
+    letter: &mut u8,
+    indicator: &mut u8,
+    flag: &mut u8,
+    compared: &mut u8,
+) -> u8
+    ensures { λ r. ⌜ searchFields r (now (found .exit)) (now (value .exit)) (now (letter .exit)) (now (indicator .exit)) (now (flag .exit)) (now (compared .exit)) ≡ fieldsOf (searchOf place day (now (register .entry))) ⌝ }
+{
+    let a = search_fields(meter::search::search(register, place, day));
+    *found = a.found;
+    *value = a.value;
+    *letter = a.letter;
+    *indicator = a.indicator;
+    *flag = a.flag;
+    *compared = a.compared;
+    a.number
 }
 
 // A day sheet played on the register. Answers how long the text is, and puts as much of it as there is room for.

@@ -19,11 +19,10 @@ mod submission;
 mod tally;
 mod withdrawal;
 
-pub use search::Search;
 pub use sheet::{play, run};
 pub use tally::Tally;
 
-use necktureen::{Answer, Number, Report, Submission};
+use necktureen::{Answer, Number, Report, Search, Submission};
 use profile::Profile;
 use register::{all_zero, area_range, open, plate_fits, write_entry};
 use register::{AREA_BYTES, ENTRY_BYTES, HELD, METER_BYTES, STANDING, WITHDRAWN};
@@ -136,9 +135,9 @@ pub fn journal(register: &[u8], place: u16) -> &[u8] {
     }
 }
 
-/// What the same-day search answers for each day from 0 to 65,535, where a sound journal is.
-pub fn search_each_day(register: &[u8], place: u16) -> Option<Vec<Search>> {
-    open(register, place).ok().map(|journal| search::search_each_day(&journal))
+/// What the same-day search answers for each day from 0 to 65,535, or the number that refuses it on every day.
+pub fn search_each_day(register: &[u8], place: u16) -> Result<Vec<Search>, Number> {
+    open(register, place).map(|journal| search::search_each_day(&journal))
 }
 
 fn refused(number: Number) -> Answer {

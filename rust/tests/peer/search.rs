@@ -1,20 +1,18 @@
 //! The search for a standing read of a day, with how many standing days it compares.
 
 use super::journal::{Journal, Read};
-
-#[derive(Clone, Copy)]
-pub struct Search {
-    pub found: Option<Read>,
-    pub compared: usize,
-}
+use necktureen::{Number, Search};
 
 /// "Those later than the submitted day, and one more if any is not later": counted over all that stand, wherever a search
 /// would end.
 fn search(standing: &[Read], day: u16) -> Search {
-    let found = standing.iter().find(|read| read.day == day).copied();
+    let found = standing.iter().find(|read| read.day == day).map(|read| {
+        let Read { day, value, letter, indicator, flag } = *read;
+        necktureen::Read { day, value, letter, indicator, flag }
+    });
     let later = standing.iter().filter(|read| read.day > day).count();
     let one_more = standing.iter().any(|read| read.day <= day);
-    Search { found, compared: later + usize::from(one_more) }
+    Search { number: Number::Accepted, found, compared: (later + usize::from(one_more)) as u8 }
 }
 
 /// For every day that two bytes hold.
