@@ -28,8 +28,8 @@ pub mod Invariant
 pub mod Unenrolled
 pub mod Chains
 pub mod Known
-pub mod KeptAll
 pub mod Trials
 pub mod Refusals
+pub mod KeptAll
 pub mod ReportKept
 pub mod KeptOut

@@ -8,7 +8,7 @@ ghost use Rattle.calls.specs.ProfileExamples.{ProfileExamplesHold};
 ghost use Rattle.calls.specs.TrialExamples.{TrialExamplesHold};
 ghost use Rattle.calls.specs.Trials.{TrialsForetell, TrialsAlterNothing};
 
-// No call damages an area: a register whose areas are all zero or sound stays so.
+// No call damages an area: one that is all zero or sound stays so, whatever the others hold.
 pub fn calls_keep_areas()
     ensures { λ _. ⌜ CallsKeepAreas ⌝ }
 {}
