@@ -32,4 +32,7 @@ pub mod Trials
 pub mod Refusals
 pub mod KeptAll
 pub mod ReportKept
+pub mod Out
+pub mod OutKept
+pub mod StaysOut
 pub mod KeptOut
