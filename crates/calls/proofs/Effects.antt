@@ -1,9 +1,10 @@
 -- What the calls do to the journal of the area that they name, as the theorem about lists uses it.
 use mathlib.Core.Path.{_≡_}
 use mathlib.Core.Logic.{_⊎_}
-use mathlib.Core.Bool.{true, false}
+use mathlib.Core.Bool.{true, false, _&&_, _||_}
 use mathlib.Core.List.{List, [], _∷_}
 use Prim.Native.Nat.{ℕ, _≤_, _<_}
+use lib.Dec.{ltb}
 use lib.IntN.{negℤ}
 use lib.ListN.{length}
 use Rattle.terms.specs.declared.profile.Profile.{Profile}
@@ -24,7 +25,7 @@ use Rattle.calls.specs.declared.call.Reply.{Reply}
 use Rattle.calls.specs.declared.call.Reply.the-variants.{Answered}
 use Rattle.calls.specs.Checks.{takenFlag}
 use Rattle.calls.specs.Calls.{act, entryFor, submittedAdvance}
-use Rattle.calls.specs.Fold.{headAfter}
+use Rattle.calls.specs.Fold.{keptFrom, headAfter}
 use Rattle.calls.specs.Play.{numberOf, mayChange}
 use Rattle.calls.proofs.Folding.{Four}
 use Rattle.calls.proofs.Totals.{IsFlag}
@@ -82,6 +83,8 @@ pub record Withdrew (day value : ℕ) (before after : List ℕ) (reply : Reply) 
   pub first-flag : standingReads after ≡ [] → last .flag ≡ 0
   pub keeps : (d v : ℕ) → any (hasRead d v) (withdrawnReads before) ≡ true → any (hasRead d v) (withdrawnReads after) ≡ true
   pub has : any (hasRead day value) (withdrawnReads after) ≡ true
+  -- it and those before are all that are withdrawn
+  pub only : (d v : ℕ) → any (hasRead d v) (withdrawnReads after) ≡ hasRead d v last || any (hasRead d v) (withdrawnReads before)
   pub replied : reply ≡ Answered (answer accepted (last .flag) (negℤ (advanceOver (meterHead before .dials) (last .value) (last .flag) (slotAt (standingReads after) 0))))
 
 -- an accepted fold
@@ -94,6 +97,8 @@ pub record Folded (before after : List ℕ) : Type 0 where
   pub stand : standingReads after ≡ stood .newest ∷ stood .second ∷ stood .third ∷ []
   -- a withdrawn entry that is gone is no later than the oldest of them
   pub gone : (d v : ℕ) → any (hasRead d v) (withdrawnReads before) ≡ true → (any (hasRead d v) (withdrawnReads after) ≡ true) ⊎ (d ≤ stood .third .day)
+  -- which of them go
+  pub left : (d v : ℕ) → any (hasRead d v) (withdrawnReads after) ≡ ltb (keptFrom (journalOf before .entries)) d && any (hasRead d v) (withdrawnReads before)
 
 -- all of them
 pub record Effects : Type 0 where

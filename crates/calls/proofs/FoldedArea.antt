@@ -1,7 +1,7 @@
 -- The area that a fold leaves: it holds the folded journal, and is sound.
-use mathlib.Core.Path.{_≡_, refl, ap, _∙_}
+use mathlib.Core.Path.{_≡_, refl, sym, ap, _∙_}
 use mathlib.Core.Logic.{_⊎_, inl, inr}
-use mathlib.Core.Bool.{Bool, true, false}
+use mathlib.Core.Bool.{Bool, true, false, _&&_, and-false}
 use mathlib.Core.List.{List, [], _∷_}
 use Prim.Native.Nat.{ℕ, _≤_}
 use native.Mathlib.Omega.{arith}
@@ -18,7 +18,7 @@ use Rattle.journal.specs.Sound.{any, hasRead, isPlate, areSound, isSound}
 use Rattle.journal.proofs.Entries.{length-entries, count-at-most}
 use Rattle.calls.specs.Checks.{isNoFold}
 use Rattle.calls.specs.Fold.{keptFrom, stays, headAfter, foldedJournal}
-use Rattle.calls.proofs.Bools.{either-of, by-test, right-or, left-or, apart as contrary}
+use Rattle.calls.proofs.Bools.{by-test, apart as contrary}
 use Rattle.calls.proofs.Clauses.{clauses-of}
 use Rattle.calls.proofs.Shape.{sounds, plate-of}
 use Rattle.calls.proofs.Laid.{laid-size, laid-sound, laid-journal}
@@ -84,24 +84,30 @@ module _ (a after : List ℕ) (sound : isSound a ≡ true) (can : isNoFold (stan
   pub folded-standing : standing es' ≡ stood .newest ∷ stood .second ∷ stood .third ∷ []
   folded-standing = ap standing entries ∙ three-stand (journalOf a) (bare a sound can) areas-sound can stood
 
-  -- a withdrawn read that is not left is no later than the oldest kept
-  dropped : (oldest d v : ℕ) (ws : List Entry) → any (hasRead d v) ws ≡ true → (any (hasRead d v) (those (λ w. ltb oldest (w .day)) ws) ≡ true) ⊎ (d ≤ oldest)
+  -- a withdrawn read is left if it is later than the oldest kept, and goes if not
+  left-any : (oldest d v : ℕ) (ws : List Entry) → any (hasRead d v) (those (λ w. ltb oldest (w .day)) ws) ≡ ltb oldest d && any (hasRead d v) ws
   unfolding any those
-  dropped oldest d v [] h = absurd (contrary h refl)
-  dropped oldest d v (w ∷ ws) h =
-      either-of (hasRead d v w) (any (hasRead d v) ws) h
+  left-any oldest d v [] = sym (and-false (ltb oldest d))
+  left-any oldest d v (w ∷ ws) =
+      by-test (hasRead d v w)
       (λ here.
-      by-test (ltb oldest (w .day))
-      (λ t. inl (rw t (left-or _ here)))
-      (λ t. inr (let l : w .day ≤ oldest = ltb-false _ _ t in let e = read-is d v w here .0 in omega arith)))
-      (λ there. kept-any (ltb oldest (w .day)) w (those (λ x. ltb oldest (x .day)) ws) (dropped oldest d v ws there))
+      let same : ltb oldest (w .day) ≡ ltb oldest d = ap (ltb oldest) (read-is d v w here .0) in
+      by-test (ltb oldest d)
+      (λ t. rw (same, t, here))
+      (λ t. rw (same, t) (left-any oldest d v ws ∙ rw t)))
+      (λ other. kept-any (ltb oldest (w .day)) w (those (λ x. ltb oldest (x .day)) ws) other ∙ left-any oldest d v ws ∙ rw other)
     where
-      kept-any : (b : Bool) (w : Entry) (es : List Entry) → (any (hasRead d v) es ≡ true) ⊎ (d ≤ oldest) → (any (hasRead d v) (keepIf b w es) ≡ true) ⊎ (d ≤ oldest)
-      kept-any true w es (inl t) = inl (right-or (hasRead d v w) t)
-      kept-any false w es (inl t) = inl t
-      kept-any b w es (inr l) = inr l
+      kept-any : (b : Bool) (w : Entry) (es : List Entry) → hasRead d v w ≡ false → any (hasRead d v) (keepIf b w es) ≡ any (hasRead d v) es
+      kept-any true w es h = rw h
+      kept-any false w es h = refl
 
+  pub folded-left : (d v : ℕ) → any (hasRead d v) (withdrawn es') ≡ ltb (keptFrom es) d && any (hasRead d v) (withdrawn es)
+  folded-left d v = rw (entries, withdrawn-left (keptFrom es) es) (left-any (keptFrom es) d v (withdrawn es))
+
+  -- so one that is not left is no later than the third last that stood
   pub folded-withdrawn : (d v : ℕ) → any (hasRead d v) (withdrawn es) ≡ true → (any (hasRead d v) (withdrawn es') ≡ true) ⊎ (d ≤ stood .third .day)
   folded-withdrawn d v h =
       let day : keptFrom es ≡ stood .third .day = kept-from es (stood .newest) (stood .second) (stood .third) (stood .fourth ∷ stood .older) (stood .are) (clauses-of _ _ areas-sound .rise) in
-      rw (entries, withdrawn-left (keptFrom es) es, ← day) (dropped (keptFrom es) d v (withdrawn es) h)
+      by-test (ltb (keptFrom es) d)
+      (λ t. inl (folded-left d v ∙ rw (t, h)))
+      (λ t. inr (rw (← day) (ltb-false _ _ t)))

@@ -1,51 +1,42 @@
--- A read that was withdrawn is kept out when it is sent again: its entry is there, or it is no later than the oldest kept read.
+-- A read that an accepted withdrawal named is kept out of its meter's area: its entry is there, or it is no later than the oldest kept read.
 use mathlib.Core.Path.{_≡_, refl, sym, ap, ap₂, _∙_}
-use mathlib.Core.Logic.{⊎-elim}
-use mathlib.Core.Bool.{Bool, true, false, not, cond}
+use mathlib.Core.Logic.{inl, inr, ⊎-elim}
+use mathlib.Core.Bool.{true, false, not, cond}
 use mathlib.Core.List.{List, [], _∷_, _++_}
 use Prim.Native.Nat.{ℕ, _≤_, _<_}
 use native.Mathlib.Omega.{arith}
-use borrow.Author.Tests.{eqb-true, eqb-false, eq-eqb, ltb-true, not-true}
-use lib.Dec.{eqb}
+use borrow.Author.Tests.{eq-eqb, not-true}
 use Rattle.terms.specs.declared.entry.Entry.{Entry}
 use Rattle.terms.specs.declared.submission.Submission.{Submission}
-use Rattle.terms.specs.Entry.{slotAt}
-use Rattle.terms.specs.Number.{repeat, missing, content, otherType, date, withdrawnRead, readAT, readEH, readBF, backDated}
 use Rattle.terms.specs.Rule.{firstBroken}
-use Rattle.register.specs.Area.{areasIn, areaOf, allZero}
-use Rattle.journal.specs.Journal.{journalOf, isThere, onDay}
-use Rattle.journal.specs.Numbers.{areaRules}
+use Rattle.register.specs.Area.{areasIn, areaOf}
+use Rattle.journal.specs.Journal.{journalOf}
+use Rattle.journal.specs.Sound.{any, hasRead}
 use Rattle.calls.specs.declared.call.Call.{Call}
-use Rattle.calls.specs.declared.call.Call.the-variants.{Submit}
-use Rattle.calls.specs.declared.call.Reply.{Reply}
-use Rattle.calls.specs.Checks.{isMissing, isBadContent, isOtherType, isBadDate, isWithdrawnRead, isRepeat, isATOnDay, isOtherIndicator, isBackDated, sameDay, contentRules, sameDayRules, orderRules, submitRules, submitChecks}
-use Rattle.calls.specs.Calls.{act, placeOf, step}
-use Rattle.calls.specs.Play.{exchanges, registerAfter, zeroRegister, numberOf}
+use Rattle.calls.specs.Checks.{isWithdrawnRead, submitChecks}
+use Rattle.calls.specs.Play.{exchanges, registerAfter, zeroRegister}
 use Rattle.calls.specs.Ledger.{Named, named, Ledger, emptyLedger, ledgerOf, isSameRead, isAmong, areNoneOf}
 use Rattle.calls.specs.DemandThree.{namesOf}
-use Rattle.calls.specs.FoldKeeps.{isKeptOut, WithdrawnStayOut}
+use Rattle.calls.specs.FoldKeeps.{answered, isKeptOut, isWrongByItself, isWrongNumber, WithdrawnStayOut}
 use Rattle.calls.proofs.Bools.{both, together, left-or, right-or, either-of, by-test, apart}
-use Rattle.journal.proofs.Bools.{neither}
-use Rattle.calls.proofs.Names.{same-is}
-use Rattle.calls.proofs.Passed.{day-after}
-use Rattle.calls.proofs.Folded.{days-apart}
+use Rattle.calls.proofs.Names.{read-is, same-is}
 use Rattle.calls.proofs.Says.{goneTo}
 use Rattle.calls.proofs.Effects.{meterHead, standingReads}
-use Rattle.calls.proofs.Frame.{Near, near-all, own-reply}
-use Rattle.calls.proofs.Known.{local, effects, submit-number}
+use Rattle.calls.proofs.Frame.{Near, near-all}
+use Rattle.calls.proofs.Known.{local, effects}
 use Rattle.calls.proofs.Invariant.{Live}
 use Rattle.calls.proofs.Chains.{run-whole, run-good, zero-whole, start-good}
+use Rattle.calls.proofs.Out.{Gone, Out, is-dated, wrong-number, out-number}
+use Rattle.calls.proofs.StaysOut.{answers}
 
--- ---- a repeat names a standing read
-repeat-stands : (s : Submission) (ss : List Entry) → isRepeat s (onDay (s .day) ss) ≡ true → isAmong (named (s .day) (s .value)) (namesOf ss) ≡ true
-unfolding isRepeat onDay isAmong isSameRead namesOf
-repeat-stands s [] h = absurd (apart h refl)
-repeat-stands s (e ∷ ss) h =
-    by-test (eqb (e .day) (s .day))
-    (λ t.
-    let v = both (eqb (e .value) (s .value)) _ (both (eqb (e .letter) (s .letter)) _ (rw t at h) .1) .0 in
-    left-or _ (together (eq-eqb (s .day) (e .day) (sym (eqb-true _ _ t))) (eq-eqb (s .value) (e .value) (sym (eqb-true _ _ v)))))
-    (λ t. right-or (isSameRead (named (s .day) (s .value)) (named (e .day) (e .value))) (repeat-stands s ss (rw t at h)))
+-- ---- a standing read is among the names of those that stand
+stands-named : (d v : ℕ) (ss : List Entry) → any (hasRead d v) ss ≡ true → isAmong (named d v) (namesOf ss) ≡ true
+unfolding any isAmong isSameRead namesOf
+stands-named d v [] h = absurd (apart h refl)
+stands-named d v (e ∷ ss) h =
+    either-of (hasRead d v e) (any (hasRead d v) ss) h
+    (λ here. let r = read-is d v e here in left-or _ (together (eq-eqb d (e .day) (sym (r .0))) (eq-eqb v (e .value) (sym (r .1)))))
+    (λ there. right-or (isSameRead (named d v) (named (e .day) (e .value))) (stands-named d v ss there))
 
 -- ---- a read is not both among some and among others that are none of them
 among-more : (r : Named) (rs more : List Named) → isAmong r rs ≡ true → isAmong r (rs ++ more) ≡ true
@@ -70,70 +61,49 @@ not-both r (x ∷ rs) others none h o =
     apart (sym (same-among r x others (same .0) (same .1)) ∙ o) (not-true _ (n .0)))
     (λ there. not-both r rs others (n .1) there o)
 
--- ---- the first ten rules of a submission: all but a repeat have a number from 5 to 12, or 29
-in-range : (m c t d w r a i o b : Bool) (rest : ℕ)
-    → r ≡ false
-    → (d ≡ false → w ≡ false → o ≡ false → b ≡ false → ⊥)
-    → isKeptOut (cond m missing (cond c content (cond t otherType (cond d date (cond w withdrawnRead (cond r repeat (cond a readAT (cond i readEH (cond o readBF (cond b backDated rest)))))))))) ≡ true
-unfolding isKeptOut
-in-range true c t d w r a i o b rest new out = refl
-in-range false true t d w r a i o b rest new out = refl
-in-range false false true d w r a i o b rest new out = refl
-in-range false false false true w r a i o b rest new out = refl
-in-range false false false false true r a i o b rest new out = refl
-in-range false false false false false true a i o b rest new out = absurd (apart refl new)
-in-range false false false false false false true i o b rest new out = refl
-in-range false false false false false false false true o b rest new out = refl
-in-range false false false false false false false false true b rest new out = refl
-in-range false false false false false false false false false true rest new out = refl
-in-range false false false false false false false false false false rest new out = absurd (out refl refl refl refl)
-
 -- ---- a withdrawn read, sent to an area of which the ledger speaks
 module _ (s : Submission) (a : List ℕ) (l : Ledger) (g : Live a l) (was : isAmong (named (s .day) (s .value)) (l .withdrawn) ≡ true) where
   abbrev read : Named
   read = named (s .day) (s .value)
 
-  no-repeat : isRepeat s (sameDay s (journalOf a)) ≡ false
-  no-repeat =
+  none-stands : any (hasRead (s .day) (s .value)) (standingReads a) ≡ false
+  none-stands =
       let y = g .says in
-      by-test (isRepeat s (sameDay s (journalOf a)))
+      by-test (any (hasRead (s .day) (s .value)) (standingReads a))
       (λ h.
-      let stands : isAmong read (l .standing) ≡ true = ap (isAmong read) (sym (y .standing-is)) ∙ among-more read (namesOf (standingReads a)) (y .older) (repeat-stands s (standingReads a) h) in
+      let stands : isAmong read (l .standing) ≡ true = ap (isAmong read) (sym (y .standing-is)) ∙ among-more read (namesOf (standingReads a)) (y .older) (stands-named (s .day) (s .value) (standingReads a) h) in
       absurd (not-both read (l .standing) (l .withdrawn) (y .apart) stands was))
       (λ h. h)
 
-  -- no later than the oldest kept read is not after the last
-  not-after : (ss : List Entry) → standingReads a ≡ ss → s .day ≤ goneTo (meterHead a) ss → isBadDate s ≡ false → isThere (onDay (s .day) ss) ≡ false → isBackDated s (slotAt ss 0) ≡ false → ⊥
-  unfolding goneTo isBadDate
-  not-after [] none gone d o b =
-      let dated = eqb-false (s .day) 0 (neither (eqb (s .day) 0) _ d .0) in
-      let gone-none : s .day ≤ 0 = rw (g .says .stands none) at gone in
-      omega arith
-  not-after (r ∷ ss) are gone d o b =
-      let dated = eqb-false (s .day) 0 (neither (eqb (s .day) 0) _ d .0) in
-      let later : r .day < s .day = ltb-true _ _ (day-after s r ss b o) in
-      let rise = days-apart r ss (rw are at (effects .rise a (g .sound))) in
+  gone-from : 0 < s .day → s .day ≤ goneTo (meterHead a) (standingReads a) → Gone s (meterHead a) (standingReads a)
+  unfolding goneTo
+  gone-from dated gone =
       by-test (meterHead a .carried)
-      (λ t. let kept = rw t at gone in omega (arith, kept))
-      (λ t. let none : s .day ≤ 0 = rw t at gone in omega arith)
+      (λ t. record { none = none-stands; carried = t; early = rw t at gone })
+      (λ t. absurd (let none : s .day ≤ 0 = rw t at gone in let f : ⊥ = omega arith in f))
 
-  out : isBadDate s ≡ false → isWithdrawnRead s (journalOf a .entries) ≡ false → isThere (sameDay s (journalOf a)) ≡ false → isBackDated s (slotAt (standingReads a) 0) ≡ false → ⊥
+  is-out : isWrongByItself (meterHead a) s ≡ false → Out s a
   unfolding isWithdrawnRead
-  out d w o b =
-      ⊎-elim
-      (λ there. apart there w)
-      (λ gone. not-after (standingReads a) refl gone d o b)
-      (g .says .withdrawn-are (s .day) (s .value) was)
+  is-out right =
+      record {
+        sound = g .sound;
+        right = right;
+        entry =
+            ⊎-elim
+            (λ there. inl there)
+            (λ gone. inr (gone-from (is-dated (meterHead a) s right) gone))
+            (g .says .withdrawn-are (s .day) (s .value) was);
+      }
 
-  kept-out : isKeptOut (firstBroken (submitChecks s a)) ≡ true
-  unfolding submitChecks areaRules submitRules contentRules sameDayRules orderRules
-  kept-out =
-      let j = journalOf a in
-      by-test (allZero a)
-      (λ zero. absurd (effects .apart a zero (g .sound)))
-      (λ h.
-      rw (h, g .sound)
-      (in-range (isMissing s) (isBadContent (j .head .dials) s) (isOtherType (j .head .profile) s) (isBadDate s) (isWithdrawnRead s (j .entries)) (isRepeat s (sameDay s j)) (isATOnDay s (sameDay s j)) (isOtherIndicator s (sameDay s j)) (isThere (sameDay s j)) (isBackDated s (slotAt (standingReads a) 0)) _ no-repeat out))
+  -- what answers it
+  abbrev Refuses : ℕ → Type 0
+  Refuses number = cond (isWrongByItself (meterHead a) s) (isWrongNumber number) (isKeptOut number) ≡ true
+
+  refuses : Refuses (firstBroken (submitChecks s a))
+  refuses =
+      by-test (isWrongByItself (meterHead a) s)
+      (λ h. rw h (wrong-number s a (g .sound) h))
+      (λ h. rw h (out-number s a (is-out h)))
 
 -- ---- after every list of calls
 module _ (meter : ℕ) (here : meter < areasIn zeroRegister) (calls : List Call) (s : Submission) where
@@ -143,18 +113,13 @@ module _ (meter : ℕ) (here : meter < areasIn zeroRegister) (calls : List Call)
   near : Near meter
   near = near-all meter zeroRegister zero-whole here
 
-  answers : numberOf (act (Submit meter s) (areaOf meter register) .reply) ≡ firstBroken (submitChecks s (areaOf meter register))
-  unfolding act
-  answers = submit-number s (areaOf meter register)
-
-  stays-out : isAmong (named (s .day) (s .value)) (ledgerOf meter (exchanges calls zeroRegister) .withdrawn) ≡ true → isKeptOut (numberOf (step (Submit meter s) register .reply)) ≡ true
-  unfolding ledgerOf placeOf isAmong
+  stays-out : isAmong (named (s .day) (s .value)) (ledgerOf meter (exchanges calls zeroRegister) .withdrawn) ≡ true → cond (isWrongByItself (journalOf (areaOf meter register) .head) s) (isWrongNumber (answered meter s register)) (isKeptOut (answered meter s register)) ≡ true
+  unfolding ledgerOf isAmong
   stays-out was =
       let whole = run-whole local calls zeroRegister zero-whole in
-      let reply = own-reply local register whole (Submit meter s) (near register whole) in
       ⊎-elim
       (λ f. absurd (apart (ap (isAmong (named (s .day) (s .value))) (sym (f .withdrawn-is)) ∙ was) refl))
-      (λ g. ap (λ (r : Reply). isKeptOut (numberOf r)) reply ∙ ap isKeptOut answers ∙ kept-out s (areaOf meter register) _ g was)
+      (λ g. rw (answers meter s register whole (near register whole)) (refuses s (areaOf meter register) _ g was))
       (run-good local effects meter near calls zeroRegister zero-whole emptyLedger (start-good meter))
 
 pub withdrawn-stay-out : WithdrawnStayOut

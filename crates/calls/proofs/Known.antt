@@ -44,7 +44,7 @@ use Rattle.calls.proofs.Shape.{sounds, entries-are, plate-of, head-ther
 use Rattle.calls.proofs.Accepted.{accepted-checked, query-passed}
 use Rattle.calls.proofs.Withdrawn.{can-withdraw, now-withdrawn, still-withdrawn}
 use Rattle.calls.proofs.Acted.{enrolment, enrol-unchanged, submission, volume-query, submit-unchanged, accepted-standing, accepted-withdrawn, query-standing, query-withdrawn, withdrawal-in, withdraw-unchanged, report-unchanged, can-fold, fold-in, fold-unchanged, trial-unchanged}
-use Rattle.calls.proofs.FoldedArea.{stood, folded-standing, folded-withdrawn}
+use Rattle.calls.proofs.FoldedArea.{stood, folded-standing, folded-left, folded-withdrawn}
 use Rattle.calls.proofs.Carried.{none-uncarried}
 use Rattle.calls.proofs.Passed.{read-dated, read-later, read-fresh}
 use Rattle.calls.specs.Play.{numberOf, mayChange}
@@ -234,6 +234,7 @@ module _ (place day value : ℕ) (area : List ℕ) (size : length area ≡ areaB
         first-flag = λ none. only-flag area sound (w .read) _ (w .stood) (ap (λ (j : Journal). j .head .carried) (sym (w .journal)) ∙ none-carried _ (w .sound) none) none;
         keeps = still-withdrawn day value area _ w;
         has = now-withdrawn day value area _ w;
+        only = w .withdrawn-now;
         replied = withdraw-reply number ∙ ap Answered (last-answer (w .read) (w .stood));
       }
 
@@ -251,6 +252,7 @@ module _ (place : ℕ) (area : List ℕ) (size : length area ≡ areaBytes) wher
         stood = stood area _ (c .sound) (c .may) w;
         stand = folded-standing area _ (c .sound) (c .may) w;
         gone = folded-withdrawn area _ (c .sound) (c .may) w;
+        left = folded-left area _ (c .sound) (c .may) w;
       }
 
 -- ---- all of them

@@ -28,8 +28,11 @@ pub mod Invariant
 pub mod Unenrolled
 pub mod Chains
 pub mod Known
-pub mod KeptAll
 pub mod Trials
 pub mod Refusals
+pub mod KeptAll
 pub mod ReportKept
+pub mod Out
+pub mod OutKept
+pub mod StaysOut
 pub mod KeptOut

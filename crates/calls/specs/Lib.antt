@@ -11,3 +11,4 @@ pub mod Trials
 pub mod Examples
 pub mod ProfileExamples
 pub mod TrialExamples
+pub mod KeptExamples

@@ -2,13 +2,14 @@
 ghost use Rattle.calls.specs.DemandOne.{DemandOne};
 ghost use Rattle.calls.specs.DemandThree.{DemandThree};
 ghost use Rattle.calls.specs.Examples.{ExamplesHold};
-ghost use Rattle.calls.specs.FoldKeeps.{FoldsKeepReports, WithdrawnStayOut};
+ghost use Rattle.calls.specs.FoldKeeps.{FoldsKeepReports, FoldsKeepOut, ResubmissionsStayOut, WithdrawnStayOut};
 ghost use Rattle.calls.specs.Kept.{CallsKeepAreas};
+ghost use Rattle.calls.specs.KeptExamples.{KeptExamplesHold};
 ghost use Rattle.calls.specs.ProfileExamples.{ProfileExamplesHold};
 ghost use Rattle.calls.specs.TrialExamples.{TrialExamplesHold};
 ghost use Rattle.calls.specs.Trials.{TrialsForetell, TrialsAlterNothing};
 
-// No call damages an area: a register whose areas are all zero or sound stays so.
+// No call damages an area: one that is all zero or sound stays so, whatever the others hold.
 pub fn calls_keep_areas()
     ensures { λ _. ⌜ CallsKeepAreas ⌝ }
 {}
@@ -26,6 +27,16 @@ pub fn demand_three()
 // A fold loses nothing of a report, on every register.
 pub fn folds_keep_reports()
     ensures { λ _. ⌜ FoldsKeepReports ⌝ }
+{}
+
+// A resubmission that was 8 before a fold is one of 9 to 12 from then on if its entry went, and else 8, on every register.
+pub fn folds_keep_out()
+    ensures { λ _. ⌜ FoldsKeepOut ⌝ }
+{}
+
+// A submission that was once 8 is one of 8 to 12, on every register and after every list of calls.
+pub fn resubmissions_stay_out()
+    ensures { λ _. ⌜ ResubmissionsStayOut ⌝ }
 {}
 
 // A read that was withdrawn is refused when it is sent again, after every list of calls.
@@ -56,4 +67,9 @@ pub fn profile_examples_hold()
 // Examples of what a trial is, and of what a list is without its trials.
 pub fn trial_examples_hold()
     ensures { λ _. ⌜ TrialExamplesHold ⌝ }
+{}
+
+// Examples of the numbers that keep a read out, and of areas that are all zero, sound or damaged.
+pub fn kept_examples_hold()
+    ensures { λ _. ⌜ KeptExamplesHold ⌝ }
 {}
