@@ -11,3 +11,6 @@ pub mod Trials
 pub mod Examples
 pub mod ProfileExamples
 pub mod TrialExamples
+pub mod CheckExamples
+pub mod OrderExamples
+pub mod PlaceExamples
