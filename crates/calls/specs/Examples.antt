@@ -6,12 +6,12 @@ use mathlib.Core.List.{List, [], _∷_, _++_}
 use Prim.Native.Nat.{ℕ}
 use lib.IntN.{ℤ, pos, negℤ}
 use Rattle.terms.specs.declared.entry.Entry.{Entry}
-use Rattle.terms.specs.declared.profile.Profile.the-variants.{Ordinary}
+use Rattle.terms.specs.declared.profile.Profile.the-variants.{Ordinary, Pseudo}
 use Rattle.terms.specs.declared.submission.Submission.{Submission}
 use Rattle.terms.specs.Answer.{answer, refusal, reported, refusedReport}
 use Rattle.terms.specs.Entry.{kindStanding, kindWithdrawn, kindHeld, indicatorNotSet, indicatorTrue}
 use Rattle.terms.specs.Letter.{letterC, letterF}
-use Rattle.terms.specs.Number.{accepted, noMeter, withdrawnRead, readEF, low, high, notLast, noFold, oldestKept}
+use Rattle.terms.specs.Number.{accepted, noMeter, withdrawnRead, readEF, low, high, notLast, plate as plateNumber, noFold, oldestKept}
 use Rattle.terms.specs.Rule.{firstBroken}
 use Rattle.terms.specs.declared.entry.Slot.the-variants.{Read, Empty}
 use Rattle.rules.specs.declared.indicator.Indicated.the-variants.{Unclear}
@@ -21,14 +21,14 @@ use Rattle.register.specs.Head.{noCarry, headOf, mostEntries, offsetAfter}
 use Rattle.journal.specs.Journal.{Journal, standing, oldestOf}
 use Rattle.journal.specs.Sound.{carriesRight}
 use Rattle.journal.specs.Total.{reportOf}
-use Rattle.calls.specs.declared.call.Call.the-variants.{Enrol, Submit, Withdraw, Report as ReportCall, Fold}
+use Rattle.calls.specs.declared.call.Call.the-variants.{Enrol, Submit, Withdraw, Report as ReportCall, Fold, Trial}
 use Rattle.calls.specs.declared.call.Reply.the-variants.{Answered, Reported}
-use Rattle.calls.specs.Checks.{isWithdrawnRead, isOldestKept, isNoFold, indicatedIn, recent, withdrawRules}
+use Rattle.calls.specs.Checks.{isWithdrawnRead, isOldestKept, isNoFold, indicatedIn, recent, withdrawRules, foldRules}
 use Rattle.calls.specs.Calls.{foldIn}
 use Rattle.calls.specs.DemandOne.{HasZeros}
 use Rattle.calls.specs.Fold.{foldedJournal}
 use Rattle.calls.specs.Play.{Exchange, exchange, isPicked, picked}
-use Rattle.calls.specs.Ledger.{Named, named, emptyLedger, isAccepted, ledgerOf, hasAccepted, hasEnrolment, lastLessFirst, lessFirst, isAmong, areNoneOf}
+use Rattle.calls.specs.Ledger.{Named, named, emptyLedger, isAccepted, ledgerOf, hasAccepted, isEnrolment, hasEnrolment, lastLessFirst, lessFirst, isAmong, areNoneOf}
 
 abbrev pub meter : ℕ
 meter = 7
@@ -39,6 +39,9 @@ read day value = record { submitted = 1600; day = day; value = value; letter = l
 
 abbrev pub enrolled : Exchange
 enrolled = exchange (Enrol meter Ordinary 4 5000) (Answered (answer accepted 0 (pos 0)))
+
+abbrev pub refusedEnrolment : Exchange
+refusedEnrolment = exchange (Enrol meter Ordinary 2 5000) (Answered (refusal plateNumber))
 
 abbrev pub submitted : ℕ → ℕ → ℕ → ℤ → Exchange
 submitted day value flag advance = exchange (Submit meter (read day value)) (Answered (answer accepted flag advance))
@@ -99,6 +102,10 @@ entry kind day value =
 abbrev pub flaggedEntry : ℕ → ℕ → ℕ → Entry
 flaggedEntry kind day value =
     record { kind = kind; day = day; value = value; letter = letterC; indicator = indicatorTrue; flag = 1 }
+
+abbrev pub final : Entry
+final =
+    record { kind = kindStanding; day = 2000; value = 950; letter = letterF; indicator = indicatorTrue; flag = 0 }
 
 abbrev pub plate : Bool → Carry → Head
 plate carried carry = record { profile = Ordinary; dials = 4; capacity = 5000; carried = carried; carry = carry }
@@ -190,6 +197,15 @@ pub record ExamplesHold : Type 0 where
   pub year-enrolled : hasEnrolment meter year ≡ true
   pub elsewhere-not-enrolled : hasEnrolment 8 year ≡ false
   pub elsewhere-accepted : hasAccepted 8 year ≡ true
+  pub refused-not-enrolled : hasEnrolment meter (refusedEnrolment ∷ []) ≡ false
+  pub read-not-enrolled : hasEnrolment meter (submitted 1000 9200 0 (pos 0) ∷ []) ≡ false
+  pub enrolment-is : isEnrolment (Enrol meter Ordinary 4 5000) ≡ true
+  pub pseudo-enrolment-is : isEnrolment (Enrol meter Pseudo 4 5000) ≡ true
+  pub submission-is-none : isEnrolment (Submit meter (read 1540 100)) ≡ false
+  pub withdrawal-is-none : isEnrolment (Withdraw meter 1540 100) ≡ false
+  pub report-is-none : isEnrolment (ReportCall meter) ≡ false
+  pub fold-is-none : isEnrolment (Fold meter) ≡ false
+  pub trial-is-none : isEnrolment (Trial meter (read 1540 100)) ≡ false
   pub queries-not-accepted : hasAccepted meter (refusedRead low ∷ refusedRead high ∷ askedInVain ∷ []) ≡ false
   -- 02, 2: "It leaves the meter's list of standing reads as it is"; all but the last three are folded then. A refused fold changes nothing.
   pub fold-picked : isPicked meter (foldAnswered accepted) ≡ true
@@ -208,8 +224,13 @@ pub record ExamplesHold : Type 0 where
   pub folds-again : foldedJournal again .head ≡ plate true (counts 9200 3 2)
   -- "27, fewer than four stand or an F stands"
   pub three-no-fold : isNoFold (standing left) ≡ true
+  pub four-fold : isNoFold (standing (again .entries)) ≡ false
   pub five-fold : isNoFold (standing (full .entries)) ≡ false
-  pub final-no-fold : isNoFold (record { kind = kindStanding; day = 2000; value = 950; letter = letterF; indicator = indicatorTrue; flag = 0 } ∷ standing (full .entries)) ≡ true
+  pub final-no-fold : isNoFold (final ∷ standing (full .entries)) ≡ true
+  pub older-final-no-fold : isNoFold (entry kindStanding 2180 990 ∷ final ∷ standing (full .entries)) ≡ true
+  -- a withdrawn read and a held one do not stand
+  pub three-refused : firstBroken (foldRules (record { head = plate false noCarry; entries = left })) ≡ noFold
+  pub four-folded : firstBroken (foldRules again) ≡ accepted
   -- "28, withdrawal of the oldest kept read": with a carry only
   pub oldest-kept : isOldestKept 1360 9600 (plate true (counts 9200 2 2)) (oldestOf (standing left)) ≡ true
   pub other-not-oldest : isOldestKept 1720 500 (plate true (counts 9200 2 2)) (oldestOf (standing left)) ≡ false
@@ -218,6 +239,14 @@ pub record ExamplesHold : Type 0 where
   pub oldest-not-last : firstBroken (withdrawRules 1360 9600 (record { head = plate true (counts 9200 2 2); entries = left })) ≡ notLast
   pub oldest-alone : firstBroken (withdrawRules 1360 9600 (alone (plate true (counts 9200 2 2)))) ≡ oldestKept
   pub uncarried-alone : firstBroken (withdrawRules 1360 9600 (alone (plate false noCarry))) ≡ accepted
+  -- "zeros in the other fields": in each of them, whatever the number
+  pub refusal-zeros : (number : ℕ) → HasZeros (Answered (refusal number))
+  pub flag-no-zero : (number : ℕ) → HasZeros (Answered (answer number 1 (pos 0))) → ⊥
+  pub advance-no-zero : (number : ℕ) → HasZeros (Answered (answer number 0 (pos 5))) → ⊥
+  pub report-zeros : (number : ℕ) → HasZeros (Reported (refusedReport number))
+  pub standing-no-zero : (number : ℕ) → HasZeros (Reported (reported number 1 0 (pos 0))) → ⊥
+  pub flagged-no-zero : (number : ℕ) → HasZeros (Reported (reported number 0 1 (pos 0))) → ⊥
+  pub total-no-zero : (number : ℕ) → HasZeros (Reported (reported number 0 0 (pos 5))) → ⊥
   -- "Fold answers flag 0 and advance 0", on every area
   pub fold-zeros : (area : List ℕ) → HasZeros (foldIn area .reply)
   -- "Folded reads don't exist for any check, detection or volume"

@@ -12,3 +12,6 @@ pub mod Examples
 pub mod ProfileExamples
 pub mod TrialExamples
 pub mod KeptExamples
+pub mod CheckExamples
+pub mod OrderExamples
+pub mod PlaceExamples

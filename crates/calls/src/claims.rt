@@ -1,10 +1,13 @@
 // What holds of the calls' definitions, as promises of functions that do nothing. The contracts of the calls cite the same definitions.
+ghost use Rattle.calls.specs.CheckExamples.{CheckExamplesHold};
 ghost use Rattle.calls.specs.DemandOne.{DemandOne};
 ghost use Rattle.calls.specs.DemandThree.{DemandThree};
 ghost use Rattle.calls.specs.Examples.{ExamplesHold};
 ghost use Rattle.calls.specs.FoldKeeps.{FoldsKeepReports, FoldsKeepOut, ResubmissionsStayOut, WithdrawnStayOut};
 ghost use Rattle.calls.specs.Kept.{CallsKeepAreas};
 ghost use Rattle.calls.specs.KeptExamples.{KeptExamplesHold};
+ghost use Rattle.calls.specs.OrderExamples.{OrderExamplesHold};
+ghost use Rattle.calls.specs.PlaceExamples.{PlaceExamplesHold};
 ghost use Rattle.calls.specs.ProfileExamples.{ProfileExamplesHold};
 ghost use Rattle.calls.specs.TrialExamples.{TrialExamplesHold};
 ghost use Rattle.calls.specs.Trials.{TrialsForetell, TrialsAlterNothing};
@@ -72,4 +75,19 @@ pub fn trial_examples_hold()
 // Examples of the numbers that keep a read out, and of areas that are all zero, sound or damaged.
 pub fn kept_examples_hold()
     ensures { λ _. ⌜ KeptExamplesHold ⌝ }
+{}
+
+// Examples of what each check of a submission refuses, and of what it lets pass.
+pub fn check_examples_hold()
+    ensures { λ _. ⌜ CheckExamplesHold ⌝ }
+{}
+
+// Examples of the order of these checks: of two that a read breaks, the first is answered.
+pub fn order_examples_hold()
+    ensures { λ _. ⌜ OrderExamplesHold ⌝ }
+{}
+
+// Examples of which registers and places a call refuses, and of how much of an area is handed back.
+pub fn place_examples_hold()
+    ensures { λ _. ⌜ PlaceExamplesHold ⌝ }
 {}
