@@ -3,10 +3,10 @@
 use libc::STDIN_FILENO;
 use libc::STDOUT_FILENO;
 use meter::part::journal;
+use playing::day::zero_register;
+use playing::whole::play;
 use register::area::Layout;
-use sheet::day::room_for_sheet;
-use sheet::day::zero_register;
-use sheet::play::play;
+use sheet::size::room_for_sheet;
 
 fn print_byte(byte: u8) {
     io::print_hex(STDOUT_FILENO, byte as u64, 2);

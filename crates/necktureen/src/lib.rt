@@ -5,7 +5,7 @@ ghost use Rattle.calendar.specs.Date.{date, dateOf, dayOf};
 ghost use Rattle.terms.specs.Answer.{answer, reported};
 ghost use Rattle.calls.specs.Calls.{done, step, journalLength};
 ghost use Rattle.meter.specs.Search.{searchOf};
-ghost use Rattle.sheet.specs.Play.{Played};
+ghost use Rattle.playing.specs.Whole.{Played};
 ghost use Rattle.tally.specs.Tally.{tallyReport};
 ghost use Rattle.necktureen.specs.Search.{searchFields, fieldsOf};
 ghost use Rattle.necktureen.specs.Told.{toldOf};
@@ -210,7 +210,7 @@ pub extern "C" fn necktureen_search(
 pub extern "C" fn necktureen_play(sheet: &[u8], register: &mut [u8], text: &mut [u8]) -> usize
     ensures { λ r. ⌜ Played (now (sheet .entry)) (now (register .entry)) (now (text .entry)) (now (register .exit)) (now (text .exit)) r ⌝ }
 {
-    sheet::play::play(sheet, register, text)
+    playing::whole::play(sheet, register, text)
 }
 
 // A tally changed in place by a call on its meter, told by its kind in a day sheet, and by the answer to it.

@@ -1,9 +1,9 @@
 // Reads a day sheet from standard input, plays it on a register of zeros and prints the text.
 use libc::STDIN_FILENO;
 use libc::STDOUT_FILENO;
-use sheet::day::room_for_sheet;
-use sheet::day::zero_register;
-use sheet::piece::play_from;
+use playing::day::zero_register;
+use playing::piece::play_from;
+use sheet::size::room_for_sheet;
 
 fn main() {
     let mut sheet = room_for_sheet();

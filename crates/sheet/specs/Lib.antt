@@ -1,6 +1,2 @@
 pub mod Sheet
-pub mod Decimal
-pub mod Line
-pub mod Play
-pub mod Piece
-pub mod Inner
+pub mod Examples

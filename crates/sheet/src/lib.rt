@@ -1,11 +1,7 @@
-// The day sheet: a list of calls as bytes, and the lines that its program prints.
-pub mod apply;
+// The day sheet: a list of calls as bytes.
 mod body;
-pub mod day;
-mod decimal;
+pub mod claims;
 pub mod form;
-mod line;
-pub mod piece;
-pub mod play;
 mod read;
+pub mod size;
 pub mod split;

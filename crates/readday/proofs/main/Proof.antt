@@ -6,7 +6,7 @@ use lib.ListN.{length}
 use lib.Seq.{length-take-le}
 use Rattle.register.specs.Area.{registerBytes}
 use Rattle.calls.proofs.Chains.{zero-whole}
-use Rattle.sheet.specs.Line.{lineMost}
+use Rattle.lines.specs.Line.{lineMost}
 use borrow.Author.Needs.{needs}
 use Rattle.readday.proofs.main.Statement.{statement}
 use Rattle.readday.proofs.main.Tie as tie

@@ -1,0 +1,4 @@
+pub mod Digits
+pub mod Negated
+pub mod Pasted
+pub mod Lengths

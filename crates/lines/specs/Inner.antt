@@ -1,0 +1,2 @@
+-- What only inner contracts need: room for text.
+pub mod Room

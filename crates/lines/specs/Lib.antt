@@ -1,0 +1,5 @@
+pub mod Decimal
+pub mod Line
+pub mod Put
+pub mod Examples
+pub mod Inner

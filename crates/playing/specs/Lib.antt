@@ -1,0 +1,4 @@
+pub mod Whole
+pub mod Piece
+pub mod Examples
+pub mod Inner
