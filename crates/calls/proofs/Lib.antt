@@ -31,5 +31,6 @@ pub mod Known
 pub mod KeptAll
 pub mod Trials
 pub mod Refusals
+pub mod Replies
 pub mod ReportKept
 pub mod KeptOut
