@@ -21,7 +21,7 @@ use Rattle.tally.specs.Tally.{zeroTally, tallyReport}
 use Rattle.tally.specs.Change.{taken, tallyAfter}
 use Rattle.tally.specs.Kept.{tallyOver, TalliesReport}
 use Rattle.tally.proofs.Runs.{tallies-report}
-use Rattle.necktureen.specs.Told.{toldCall, toldKind, toldOf, Told, kindTold, dialsTold, valueTold, flagTold, advanceTold, exchangeTold, toldBy, ToldIsEnough, toldIf, allTold, toldOver, ToldTalliesReport}
+use Rattle.necktureen.specs.Told.{toldCall, toldKind, toldOf, Told, kindTold, dialsOf, valueOf, flagTold, advanceTold, exchangeTold, toldBy, ToldIsEnough, toldIf, allTold, toldOver, ToldTalliesReport}
 
 -- a trial changes nothing, whatever it is answered
 same : (b : Bool) (t : Tally) → t ≡ cond b t t
@@ -30,7 +30,7 @@ same false t = refl
 
 -- a call and a reply of its form
 tells : (call : Call) (reply : Reply) → isReported reply ≡ isReport call → (any : Told) (t : Tally) → toldBy (exchangeTold (exchange call reply) any) t ≡ tallyAfter call reply t
-unfolding toldBy exchangeTold toldOf toldKind toldCall kindTold dialsTold valueTold flagTold advanceTold kindByte kindOf kindIn numberOf tallyAfter taken isReport isReported
+unfolding toldBy exchangeTold toldOf toldKind toldCall kindTold dialsOf valueOf flagTold advanceTold kindByte kindOf kindIn numberOf tallyAfter taken isReport isReported
 tells (Enrol place Ordinary dials capacity) (Answered a) form any t = refl
 tells (Enrol place Pseudo dials capacity) (Answered a) form any t = refl
 tells (Enrol place profile dials capacity) (Reported r) form any t = absurd (apart refl form)

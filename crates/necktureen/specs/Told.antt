@@ -64,21 +64,21 @@ kindTold (call.Report place) = kindByte Report
 kindTold (call.Fold place) = kindByte Fold
 kindTold (call.Trial place s) = 0
 
-unfoldable pub dialsTold : Call → ℕ → ℕ
-dialsTold (call.Enrol place profile dials capacity) any = dials
-dialsTold (call.Submit place s) any = any
-dialsTold (call.Withdraw place day value) any = any
-dialsTold (call.Report place) any = any
-dialsTold (call.Fold place) any = any
-dialsTold (call.Trial place s) any = any
+unfoldable pub dialsOf : Call → ℕ → ℕ
+dialsOf (call.Enrol place profile dials capacity) any = dials
+dialsOf (call.Submit place s) any = any
+dialsOf (call.Withdraw place day value) any = any
+dialsOf (call.Report place) any = any
+dialsOf (call.Fold place) any = any
+dialsOf (call.Trial place s) any = any
 
-unfoldable pub valueTold : Call → ℕ → ℕ
-valueTold (call.Enrol place profile dials capacity) any = any
-valueTold (call.Submit place s) any = s .value
-valueTold (call.Withdraw place day value) any = any
-valueTold (call.Report place) any = any
-valueTold (call.Fold place) any = any
-valueTold (call.Trial place s) any = any
+unfoldable pub valueOf : Call → ℕ → ℕ
+valueOf (call.Enrol place profile dials capacity) any = any
+valueOf (call.Submit place s) any = s .value
+valueOf (call.Withdraw place day value) any = any
+valueOf (call.Report place) any = any
+valueOf (call.Fold place) any = any
+valueOf (call.Trial place s) any = any
 
 unfoldable pub flagTold : Reply → ℕ → ℕ
 flagTold (Answered a) any = a .flag
@@ -92,8 +92,8 @@ unfoldable pub exchangeTold : Exchange → Told → Told
 exchangeTold x any =
     told
     (kindTold (x .call))
-    (dialsTold (x .call) (any .dials))
-    (valueTold (x .call) (any .value))
+    (dialsOf (x .call) (any .dials))
+    (valueOf (x .call) (any .value))
     (numberOf (x .reply))
     (flagTold (x .reply) (any .flag))
     (advanceTold (x .reply) (any .advance))

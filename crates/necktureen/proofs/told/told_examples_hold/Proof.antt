@@ -7,12 +7,12 @@ use Rattle.sheet.specs.Sheet.{kindByte, kindIn, kindOf}
 use Rattle.tally.specs.Tally.{isZero, hasOtherDials, isNoValue, isBroken, tallyNumber}
 use Rattle.tally.specs.Change.{tallyFor, mayBe, madeTo, enrolled, withRead, lastWithout, withoutRead, taken, tallyAfter}
 use Rattle.tally.specs.Examples.{year}
-use Rattle.necktureen.specs.Told.{toldCall, toldKind, toldOf, kindTold, dialsTold, valueTold, flagTold, advanceTold, exchangeTold, toldBy, allTold, toldOver}
+use Rattle.necktureen.specs.Told.{toldCall, toldKind, toldOf, kindTold, dialsOf, valueOf, flagTold, advanceTold, exchangeTold, toldBy, allTold, toldOver}
 use Rattle.necktureen.proofs.told.told_examples_hold.Statement.{statement}
 use Rattle.necktureen.proofs.told.told_examples_hold.Tie as tie
 
 returns : tie.Need-returns
-unfolding tenTo placeOf numberOf isTrial names kindByte kindIn kindOf isZero hasOtherDials isNoValue isBroken tallyNumber tallyFor mayBe madeTo enrolled withRead lastWithout withoutRead taken tallyAfter year toldCall toldKind toldOf kindTold dialsTold valueTold flagTold advanceTold exchangeTold toldBy allTold toldOver
+unfolding tenTo placeOf numberOf isTrial names kindByte kindIn kindOf isZero hasOtherDials isNoValue isBroken tallyNumber tallyFor mayBe madeTo enrolled withRead lastWithout withoutRead taken tallyAfter year toldCall toldKind toldOf kindTold dialsOf valueOf flagTold advanceTold exchangeTold toldBy allTold toldOver
 returns c =
     record {
       enrolment = λ any. refl;
