@@ -31,6 +31,7 @@ pub mod Known
 pub mod Trials
 pub mod Refusals
 pub mod KeptAll
+pub mod Replies
 pub mod ReportKept
 pub mod Out
 pub mod OutKept

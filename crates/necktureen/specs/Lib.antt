@@ -1,2 +1,3 @@
 pub mod Search
 pub mod Told
+pub mod Examples

@@ -1,6 +1,7 @@
 // What a program in C tells of a call and its answer, and the tally after it.
 ghost use mathlib.Core.Path.{_≡_};
-ghost use Rattle.necktureen.specs.Told.{toldCall, toldOf, ToldIsEnough};
+ghost use Rattle.necktureen.specs.Examples.{ToldExamplesHold};
+ghost use Rattle.necktureen.specs.Told.{toldCall, toldOf, ToldIsEnough, ToldTalliesReport};
 use calls::call::Call;
 use calls::call::Reply;
 use sheet::form::Form;
@@ -65,7 +66,17 @@ pub(crate) fn told(
     }
 }
 
-// What is told is enough: the tally is changed as by the call itself.
+// What is told of a call and its reply is enough: the tally is changed as by the call itself.
 pub fn told_is_enough()
     ensures { λ _. ⌜ ToldIsEnough ⌝ }
+{}
+
+// A report from a tally that is told of every call on its meter is a full report, after every list of calls.
+pub fn told_tallies_report()
+    ensures { λ _. ⌜ ToldTalliesReport ⌝ }
+{}
+
+// Examples of what is told of a call and its reply, and of what a tally makes of it.
+pub fn told_examples_hold()
+    ensures { λ _. ⌜ ToldExamplesHold ⌝ }
 {}
