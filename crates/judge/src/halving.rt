@@ -12,6 +12,8 @@ ghost use Rattle.judge.specs.Inner.Halving.{placed, Places, Inside, Betw
 use crate::marks::is_marked;
 use crate::marks::mark;
 use crate::read::entry_at;
+use crate::read::long_at;
+use crate::read::word_at;
 use journal::order::has_read;
 use journal::order::is_withdrawn;
 use register::area::Layout;
@@ -53,8 +55,8 @@ fn marks_over(body: &[u8], places: &[u8; Room::PLACES], n: u8) -> u64
     let mut i: u8 = 0;
     while i < n {
         let k = places[i as usize];
-        let e = entry_at(body, k);
-        marks = mark(marks, e.value);
+        let value = long_at(body, Layout::ENTRY_BYTES * (k as usize) + 3);
+        marks = mark(marks, value);
         i += 1;
     }
     marks
@@ -71,8 +73,7 @@ fn first_from(body: &[u8], places: &[u8; Room::PLACES], n: u8, day: u16) -> u8
     while low < high {
         let middle = low + (high - low) / 2;
         let k = places[middle];
-        let e = entry_at(body, k);
-        if e.day < day {
+        if word_at(body, Layout::ENTRY_BYTES * (k as usize) + 1) < day {
             low = middle + 1;
         } else {
             high = middle;

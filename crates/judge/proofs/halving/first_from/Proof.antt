@@ -2,7 +2,7 @@
 use Prim.Native.Nat.{ℕ, _+_, _-_, _/_, _≤_}
 use native.Mathlib.Omega.{arith}
 use lib.ListN.{length, getD}
-use Rattle.register.specs.Entries.{entryStart}
+use Rattle.register.specs.Entries.{entryStart, entryAt}
 use Rattle.judge.specs.Inner.Halving.{Between}
 use Rattle.judge.proofs.Halved.{between-all, between-up, between-down, between-met}
 use Rattle.judge.proofs.halving.first_from.Statement.{statement}
@@ -33,8 +33,17 @@ add-middle c = omega arith
 element-copy-out-k : tie.Need-element-copy-out-k Inv-loop μ-loop
 element-copy-out-k c = omega arith
 
-entry-at-requires : tie.Need-entry-at-requires Inv-loop μ-loop
-entry-at-requires c κs = omega (arith, room (c .before))
+cast-word-at : tie.Need-cast-word-at Inv-loop μ-loop
+cast-word-at c = omega (arith, room (c .before))
+
+mul-word-at : tie.Need-mul-word-at Inv-loop μ-loop
+mul-word-at c = omega (arith, room (c .before))
+
+add-word-at : tie.Need-add-word-at Inv-loop μ-loop
+add-word-at c = omega (arith, room (c .before))
+
+word-at-requires : tie.Need-word-at-requires Inv-loop μ-loop
+word-at-requires c κs = omega (arith, room (c .before))
 
 add-low : tie.Need-add-low Inv-loop μ-loop
 add-low c = omega arith
@@ -43,17 +52,19 @@ loop-less : tie.Need-loop-less Inv-loop μ-loop
 loop-less c = omega arith
 
 loop-again : tie.Need-loop-again Inv-loop μ-loop
+unfolding entryAt
 loop-again c =
-    let at = c .before .before .before .before in
-    between-up (at .before .loop .inv) (middle at) (omega arith) (rw (c .before .before .entry-at .ensures) at (c .if1 .taken))
+    let at = c .before .before .before in
+    between-up (at .before .loop .inv) (middle at) (omega arith) (rw (c .before .word-at .ensures) at (c .if1 .taken))
 
 loop-less-2 : tie.Need-loop-less-2 Inv-loop μ-loop
 loop-less-2 c = omega arith
 
 loop-again-2 : tie.Need-loop-again-2 Inv-loop μ-loop
+unfolding entryAt
 loop-again-2 c =
-    let at = c .before .before .before .before in
-    between-down (at .before .loop .inv) (middle at) (omega arith) (omega arith) (rw (c .before .before .entry-at .ensures) at (c .if1 .left))
+    let at = c .before .before .before in
+    between-down (at .before .loop .inv) (middle at) (omega arith) (omega arith) (rw (c .before .word-at .ensures) at (c .if1 .left))
 
 cast-result : tie.Need-cast-result Inv-loop μ-loop
 cast-result c = omega arith
@@ -71,7 +82,10 @@ first-from-spec =
     sub-middle
     add-middle
     element-copy-out-k
-    entry-at-requires
+    cast-word-at
+    mul-word-at
+    add-word-at
+    word-at-requires
     add-low
     loop-less
     loop-again

@@ -5,7 +5,7 @@ use native.Mathlib.Numerals.{add-one}
 use native.Mathlib.Omega.{arith}
 use borrow.Author.Needs.{needs}
 use lib.ListN.{length, getD}
-use Rattle.register.specs.Entries.{entryStart}
+use Rattle.register.specs.Entries.{entryStart, entryAt}
 use Rattle.judge.specs.Inner.Halving.{placed, valueMarks}
 use Rattle.judge.proofs.halving.marks_over.Statement.{statement}
 use Rattle.judge.proofs.halving.marks_over.Tie as tie
@@ -30,8 +30,17 @@ cast-k c = search needs
 element-copy-out-k : tie.Need-element-copy-out-k Inv-loop μ-loop
 element-copy-out-k c = search needs
 
-entry-at-requires : tie.Need-entry-at-requires Inv-loop μ-loop
-entry-at-requires c κs = omega (arith, room (c .before))
+cast-long-at : tie.Need-cast-long-at Inv-loop μ-loop
+cast-long-at c = omega (arith, room (c .before))
+
+mul-long-at : tie.Need-mul-long-at Inv-loop μ-loop
+mul-long-at c = omega (arith, room (c .before))
+
+add-long-at : tie.Need-add-long-at Inv-loop μ-loop
+add-long-at c = omega (arith, room (c .before))
+
+long-at-requires : tie.Need-long-at-requires Inv-loop μ-loop
+long-at-requires c κs = omega (arith, room (c .before))
 
 mark-requires : tie.Need-mark-requires Inv-loop μ-loop
 mark-requires c κs = search needs
@@ -43,11 +52,11 @@ loop-less : tie.Need-loop-less Inv-loop μ-loop
 loop-less c = omega arith
 
 loop-again : tie.Need-loop-again Inv-loop μ-loop
-unfolding placed valueMarks
+unfolding placed valueMarks entryAt
 loop-again c =
     let read = c .before in
     let at = read .before .before .before in
-    (omega arith, rw (add-one (at .loop .i), c .mark .ensures, read .entry-at .ensures, at .loop .inv .1))
+    (omega arith, rw (add-one (at .loop .i), c .mark .ensures, read .long-at .ensures, at .loop .inv .1))
 
 returns : tie.Need-returns Inv-loop μ-loop
 returns c =
@@ -63,7 +72,10 @@ marks-over-spec =
     loop-holds
     cast-k
     element-copy-out-k
-    entry-at-requires
+    cast-long-at
+    mul-long-at
+    add-long-at
+    long-at-requires
     mark-requires
     add-i
     loop-less
