@@ -5,7 +5,7 @@ ghost use Rattle.terms.specs.declared.entry.Entry.{Entry};
 ghost use Rattle.terms.specs.Entry.{recentOf};
 ghost use Rattle.journal.specs.Journal.{entriesTo, standing};
 use journal::order::is_standing;
-use reads::any::entry_of;
+use register::read::entry_after;
 use terms::entry::Entry;
 use terms::entry::Recent;
 use terms::entry::Slot;
@@ -38,7 +38,7 @@ pub(crate) fn kept_of(body: &[u8], m: u8) -> Recent
     };
     let mut k: u8 = 0;
     while k < m {
-        let e = entry_of(body, k);
+        let e = entry_after(body, k);
         kept = newer(kept, e);
         k += 1;
     }

@@ -10,9 +10,9 @@ ghost use Rattle.calls.specs.Fold.{stays};
 use journal::order::is_held;
 use journal::order::is_standing;
 use journal::order::is_withdrawn;
-use reads::any::entry_of;
 use register::head::Head;
 use register::head::offset_after;
+use register::read::entry_after;
 use register::write::put_entry;
 use terms::entry::Entry;
 
@@ -42,7 +42,7 @@ pub(crate) fn put_left(left: &mut [u8], head: Head, body: &[u8], m: u8, oldest: 
     let mut count: u8 = 0;
     let mut k: u8 = 0;
     while k < m {
-        let e = entry_of(body, k);
+        let e = entry_after(body, k);
         count = put_next(left, head, oldest, count, e);
         k += 1;
     }

@@ -20,12 +20,12 @@ use crate::limits::limits_of;
 use crate::pass::Pass;
 use crate::passed::pass_over;
 use crate::read::entry_at;
-use crate::read::head_at;
 use crate::run::Run;
 use journal::plate::is_meter;
 use register::area::Layout;
 use register::head::Head;
 use register::head::head_bytes;
+use register::read::head_of;
 use register::zeros::is_zero_from;
 
 // Counts over a journal's entries.
@@ -171,7 +171,7 @@ fn judge_journal(area: &[u8], day: u16, value: u32) -> Judgement
     requires { ⌜ (length (now area) ≡ areaBytes) × (allZero (now area) ≡ false) ⌝ }
     ensures { λ r. ⌜ Answers (judged (now (area .entry))) (bodyOf (now (area .entry))) day value r ⌝ }
 {
-    let head = head_at(area);
+    let head = head_of(area);
     if !is_head(area, head) {
         return no_journal(Judged::Damaged);
     }

@@ -97,11 +97,11 @@ module _ (a : List ℕ) (day compared : ℕ) {m k : ℕ} (one : m ≡ suc k) whe
   unfolding those
   passed-over h = rw (last-entry a one, h)
 
-  module _ {its : ℕ} (stands : isStanding e ≡ true) (is : its ≡ wordAt a (entryStart k + 1)) where
-    pub passed-later : day < its → searchFrom day compared (standing (entriesTo m a)) ≡ searchFrom day (compared + 1) (standing (entriesTo k a))
-    unfolding those searchFrom entryAt
-    passed-later l = rw (last-entry a one, stands, lt-leb (e .day) day (omega (arith, is)))
+  module _ (stands : isStanding e ≡ true) where
+    pub passed-later : day < e .day → searchFrom day compared (standing (entriesTo m a)) ≡ searchFrom day (compared + 1) (standing (entriesTo k a))
+    unfolding those searchFrom
+    passed-later l = rw (last-entry a one, stands, lt-leb (e .day) day l)
 
-    pub ended : its ≤ day → searchFrom day compared (standing (entriesTo m a)) ≡ endsAt day compared e
-    unfolding those searchFrom entryAt
-    ended l = rw (last-entry a one, stands, le-leb (e .day) day (omega (arith, is)))
+    pub ended : e .day ≤ day → searchFrom day compared (standing (entriesTo m a)) ≡ endsAt day compared e
+    unfolding those searchFrom
+    ended l = rw (last-entry a one, stands, le-leb (e .day) day l)

@@ -7,10 +7,8 @@ ghost use Rattle.journal.specs.Journal.{journalOf, entriesTo, standing};
 ghost use Rattle.judge.specs.Inner.Judged.{Counted};
 ghost use Rattle.reads.specs.Search.{notFound, endsAt, searchFrom, searchAnswer};
 use crate::read::entry_at;
-use crate::read::word_at;
 use crate::room::has_entry;
 use judge::area::Summary;
-use register::area::Layout;
 use register::head::head_bytes;
 use terms::entry::Entry;
 use terms::entry::Kind;
@@ -57,10 +55,10 @@ fn search_back(body: &[u8], m: u8, day: u16) -> Search
     let mut k = m;
     while 0 < k {
         let newest = k - 1;
-        let at = Layout::ENTRY_BYTES * (newest as usize);
-        if body[at] == Kind::STANDING {
-            if word_at(body, at + 1) <= day {
-                return end_at(entry_at(body, newest), day, later);
+        let e = entry_at(body, newest);
+        if e.kind == Kind::STANDING {
+            if e.day <= day {
+                return end_at(e, day, later);
             }
             later += 1;
         }

@@ -2,5 +2,6 @@
 pub mod area;
 pub mod claims;
 pub mod head;
+pub mod read;
 pub mod write;
 pub mod zeros;

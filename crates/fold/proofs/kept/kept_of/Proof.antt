@@ -19,8 +19,8 @@ loop-holds : tie.Need-loop-holds Inv-loop μ-loop
 unfolding entriesTo those slotAt recentOf
 loop-holds c = (omega arith, refl)
 
-entry-of-requires : tie.Need-entry-of-requires Inv-loop μ-loop
-entry-of-requires c κs = search needs
+entry-after-requires : tie.Need-entry-after-requires Inv-loop μ-loop
+entry-after-requires c κs = search needs
 
 newer-requires : tie.Need-newer-requires Inv-loop μ-loop
 newer-requires c κs = search needs
@@ -34,7 +34,7 @@ loop-less c = omega arith
 loop-again : tie.Need-loop-again Inv-loop μ-loop
 loop-again c =
     let old = c .before .before .before in
-    (omega arith, rw (one-more, ← c .before .entry-of .ensures) (c .newer .ensures _ (old .loop .inv .1)))
+    (omega arith, rw (one-more, ← c .before .entry-after .ensures) (c .newer .ensures _ (old .loop .inv .1)))
 
 returns : tie.Need-returns Inv-loop μ-loop
 returns c =
@@ -48,7 +48,7 @@ kept-of-spec =
     Inv-loop
     μ-loop
     loop-holds
-    entry-of-requires
+    entry-after-requires
     newer-requires
     add-k
     loop-less

@@ -21,8 +21,8 @@ loop-holds : tie.Need-loop-holds Inv-loop μ-loop
 unfolding entriesTo those putEntries
 loop-holds c = (omega arith, omega arith, refl, refl, refl)
 
-entry-of-requires : tie.Need-entry-of-requires Inv-loop μ-loop
-entry-of-requires c κs = search needs
+entry-after-requires : tie.Need-entry-after-requires Inv-loop μ-loop
+entry-after-requires c κs = search needs
 
 put-next-requires : tie.Need-put-next-requires Inv-loop μ-loop
 put-next-requires c κs = let loop = c .before .before .before in omega (arith, loop .loop .inv .0, loop .loop .inv .1)
@@ -40,7 +40,7 @@ loop-again c =
     let entry = put .before .before in
     let inv = entry .before .before .loop .inv in
     let more = put .put-next .ensures .1 _ _ (inv .3) (inv .4) in
-    (omega arith, omega (arith, put .put-next .ensures .0, inv .1), put .put-next .kept .0 ∙ inv .2, rw (one-more, ← entry .entry-of .ensures) (more .0), rw (one-more, ← entry .entry-of .ensures) (more .1))
+    (omega arith, omega (arith, put .put-next .ensures .0, inv .1), put .put-next .kept .0 ∙ inv .2, rw (one-more, ← entry .entry-after .ensures) (more .0), rw (one-more, ← entry .entry-after .ensures) (more .1))
 
 same-length : tie.Need-same-length Inv-loop μ-loop
 same-length c = search needs
@@ -57,7 +57,7 @@ put-left-spec =
     Inv-loop
     μ-loop
     loop-holds
-    entry-of-requires
+    entry-after-requires
     put-next-requires
     add-k
     loop-less

@@ -33,13 +33,13 @@ module _ (c : tie.After-head-bytes) where
   area = c .before .before .before .before .before .args .area .now
 
   starts : c .head-bytes .result ≡ headBytes (headOf area)
-  starts = rw (c .before .before .before .head-at .ensures) at (c .head-bytes .ensures)
+  starts = rw (c .before .before .before .head-of .ensures) at (c .head-bytes .ensures)
 
   room : c .head-bytes .result ≤ length area
   room = omega (arith, starts, body-length area (c .before .before .before .before .before .pre .0))
 
-head-at-requires : tie.Need-head-at-requires
-head-at-requires c κs = search needs
+head-of-requires : tie.Need-head-of-requires
+head-of-requires c κs = search needs
 
 is-head-requires : tie.Need-is-head-requires
 is-head-requires c κs = search needs
@@ -69,7 +69,7 @@ judge-body-requires : tie.Need-judge-body-requires
 judge-body-requires c κs =
     let h = c .before in
     let head = h .before .before .before in
-    lent-room (area h) (head .head-at .result) (h .head-bytes .result) (head .head-at .ensures) (starts h) (head .before .before .pre .0)
+    lent-room (area h) (head .head-of .result) (h .head-bytes .result) (head .head-of .ensures) (starts h) (head .before .before .pre .0)
 
 returns-2 : tie.Need-returns-2
 returns-2 c =
@@ -79,7 +79,7 @@ returns-2 c =
     rw (
       by-body _ (start .pre) (sym (head .is-head .ensures) ∙ not-false _ (h .before .if1 .left)),
       ← body-lent (area h) (h .head-bytes .result) (starts h),
-      ← head .before .head-at .ensures,
+      ← head .before .head-of .ensures,
     )
     (c .judge-body .ensures)
 
@@ -87,7 +87,7 @@ pub judge-journal-spec : {M : Type 1} → statement M
 judge-journal-spec =
     tie.close
     (tie.spec
-    head-at-requires
+    head-of-requires
     is-head-requires
     no-journal-requires
     returns

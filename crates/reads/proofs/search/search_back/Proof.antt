@@ -26,21 +26,6 @@ loop-holds c = (omega arith, refl)
 sub-newest : tie.Need-sub-newest Inv-loop μ-loop
 sub-newest c = omega arith
 
-cast-at : tie.Need-cast-at Inv-loop μ-loop
-cast-at c = omega arith
-
-mul-at : tie.Need-mul-at Inv-loop μ-loop
-mul-at c = omega arith
-
-shared-slice-read-if1 : tie.Need-shared-slice-read-if1 Inv-loop μ-loop
-shared-slice-read-if1 c = omega arith
-
-add-word-at : tie.Need-add-word-at Inv-loop μ-loop
-add-word-at c = omega arith
-
-word-at-requires : tie.Need-word-at-requires Inv-loop μ-loop
-word-at-requires c κs = search needs
-
 entry-at-requires : tie.Need-entry-at-requires Inv-loop μ-loop
 entry-at-requires c κs = search needs
 
@@ -52,15 +37,14 @@ one : (c : tie.In-loop Inv-loop μ-loop) → c .before .loop .k ≡ suc (c .befo
 one c = omega (arith, c .loop-test .taken)
 
 returns : tie.Need-returns Inv-loop μ-loop
-unfolding isStanding entryAt
+unfolding isStanding
 returns c =
-    let early = c .before .before in
-    let word = early .before in
-    let stands = word .before in
-    let now = stands .before .before in
+    let stands = c .before .before .before in
+    let read = stands .before .before in
+    let now = read .before in
     c .end-at .ensures
-    ∙ rw (c .before .entry-at .ensures)
-    (sym (ended _ _ _ (one now) (eq-eqb _ _ (stands .if1 .taken)) (word .word-at .ensures) (early .if2 .taken)))
+    ∙ rw (read .entry-at .ensures)
+    (sym (ended _ _ _ (one now) (rw (read .entry-at .ensures) at (eq-eqb _ _ (stands .if1 .taken))) (rw (read .entry-at .ensures) at (c .before .if2 .taken))))
     ∙ now .before .loop .inv .1
 
 add-later : tie.Need-add-later Inv-loop μ-loop
@@ -73,13 +57,15 @@ loop-less : tie.Need-loop-less Inv-loop μ-loop
 loop-less c = omega arith
 
 loop-again : tie.Need-loop-again Inv-loop μ-loop
-unfolding isStanding entryAt
+unfolding isStanding
 loop-again c =
-    let now = c .before .before in
+    let read = c .before .before in
+    let now = read .before in
     let held = now .before .loop .inv in
+    let is = read .entry-at .ensures in
     ⊎-elim
-    (λ w. (omega arith, rw (w .3) (sym (passed-later _ _ _ (one now) (eq-eqb _ _ (w .0 .taken)) (w .1 .ensures) (w .2 .left)) ∙ held .1)))
-    (λ w. (omega arith, rw (w .1) (sym (passed-over _ _ _ (one now) (ne-eqb _ _ (w .0 .left))) ∙ held .1)))
+    (λ w. (omega arith, rw (w .3) (sym (passed-later _ _ _ (one now) (rw is at (eq-eqb _ _ (w .0 .taken))) (rw is at (w .2 .left))) ∙ held .1)))
+    (λ w. (omega arith, rw (w .1) (sym (passed-over _ _ _ (one now) (rw is at (ne-eqb _ _ (w .0 .left)))) ∙ held .1)))
     (c .if1 .came)
 
 not-found-requires : tie.Need-not-found-requires Inv-loop μ-loop
@@ -100,11 +86,6 @@ search-back-spec =
     μ-loop
     loop-holds
     sub-newest
-    cast-at
-    mul-at
-    shared-slice-read-if1
-    add-word-at
-    word-at-requires
     entry-at-requires
     end-at-requires
     returns

@@ -1,8 +1,8 @@
--- Two numbers of two bytes each, so the sum fits.
+-- Four bytes, as the definition has them.
+use Rattle.register.specs.Bytes.{longAt}
 use borrow.Author.Needs.{needs}
-use Rattle.register.specs.Bytes.{longAt}
-use Rattle.reads.proofs.read.long_at.Statement.{statement}
-use Rattle.reads.proofs.read.long_at.Tie as tie
+use Rattle.register.proofs.read.long_at.Statement.{statement}
+use Rattle.register.proofs.read.long_at.Tie as tie
 
 word-at-requires : tie.Need-word-at-requires
 word-at-requires c κs = search needs
@@ -27,7 +27,7 @@ add-result c = search needs
 
 returns : tie.Need-returns
 unfolding longAt
-returns c = search needs
+returns c = cc (c .before .word-at .ensures, c .word-at2 .ensures)
 
 pub long-at-spec : {M : Type 1} → statement M
 long-at-spec =
