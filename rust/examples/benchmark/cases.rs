@@ -25,6 +25,7 @@ pub fn rows() -> Vec<Row> {
     rows.extend(of_turns());
     rows.extend(of_trials());
     rows.extend([0, 50].map(|entries| row(Made::Journal, "handed back", entries, Number::Accepted)));
+    rows.extend(searches());
     rows.extend(of_tallies());
     rows.extend([(Made::DateOf, "the date of a day"), (Made::DayOf, "the day of a date")].map(calendar));
     rows
@@ -128,6 +129,12 @@ fn withdraw(case: &'static str, entries: usize, withdrawn: Withdrawn) -> Row {
     let last = withdrawn.standing(entries) - 1;
     let made = Made::Withdraw { day: day(last), value: withdrawn.value(last) };
     Row { register: register(entries, withdrawn), ..row(made, case, entries, Number::Accepted) }
+}
+
+/// On 50 standing reads: a day after the newest, the newest and the oldest.
+fn searches() -> [Row; 3] {
+    let asked = [("a day after the newest", day(49) + 1), ("the newest day", day(49)), ("the oldest day", day(0))];
+    asked.map(|(case, day)| row(Made::Search { day }, case, 50, Number::Accepted))
 }
 
 fn folds() -> Vec<Row> {

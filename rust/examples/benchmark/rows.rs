@@ -18,6 +18,7 @@ pub enum Made {
     Fold,
     Report,
     Journal,
+    Search { day: u16 },
     TallyReport(Tally),
     TallyChange(Change),
     DateOf,
@@ -65,6 +66,7 @@ impl Made {
             Made::Fold => "fold",
             Made::Report => "report",
             Made::Journal => "journal",
+            Made::Search { .. } => "search",
             Made::TallyReport(_) => "tally_report",
             Made::TallyChange(_) => "tally_change",
             Made::DateOf => "date_of",
@@ -76,7 +78,13 @@ impl Made {
     fn only_reads(self) -> bool {
         matches!(
             self,
-            Made::Trial(_) | Made::Report | Made::Journal | Made::TallyReport(_) | Made::DateOf | Made::DayOf
+            Made::Trial(_)
+                | Made::Report
+                | Made::Journal
+                | Made::Search { .. }
+                | Made::TallyReport(_)
+                | Made::DateOf
+                | Made::DayOf
         )
     }
 }
@@ -128,6 +136,7 @@ impl Row {
             Made::Report => (side.report)(register, place).number,
             Made::Journal if (side.journal)(register, place).is_empty() => Number::NoMeter,
             Made::Journal => Number::Accepted,
+            Made::Search { day } => (side.search)(register, place, day).number,
             Made::TallyReport(tally) if (side.tally_report)(&tally) == (side.report)(register, place) => {
                 Number::Accepted
             }
@@ -165,6 +174,9 @@ impl Row {
             }),
             Made::Journal => self.stretches(passes, |register, place| {
                 let _ = black_box((side.journal)(register, place));
+            }),
+            Made::Search { day } => self.stretches(passes, |register, place| {
+                let _ = black_box((side.search)(register, place, black_box(day)));
             }),
             Made::TallyReport(tally) => self.run_tally_report(side, passes, tally),
             Made::TallyChange(change) => self.run_tally_change(side, passes, change),

@@ -1,7 +1,7 @@
 //! The two sides: the library, and the peer, a second writing of the same rules by hand.
 
 use crate::peer;
-use necktureen::{Answer, Call, Date, Reply, Report, Submission, Tally};
+use necktureen::{Answer, Call, Date, Reply, Report, Search, Submission, Tally};
 
 /// Both sides are called through pointers, so that neither is inlined into the loop that calls it.
 #[derive(Clone, Copy)]
@@ -14,6 +14,7 @@ pub struct Side {
     pub fold: fn(&mut [u8], u16) -> Answer,
     pub report: fn(&[u8], u16) -> Report,
     pub journal: fn(&[u8], u16) -> &[u8],
+    pub search: fn(&[u8], u16, u16) -> Search,
     pub tally_change: fn(&mut Tally, &Call, Reply),
     pub tally_report: fn(&Tally) -> Report,
     pub date_of: fn(u16) -> Option<Date>,
@@ -29,6 +30,7 @@ pub const LIBRARY: Side = Side {
     fold: necktureen::fold,
     report: necktureen::report,
     journal: necktureen::journal,
+    search: necktureen::search,
     tally_change: Tally::change,
     tally_report: Tally::report,
     date_of: necktureen::date_of,
@@ -44,6 +46,7 @@ pub const PEER: Side = Side {
     fold: peer::fold,
     report: peer::report,
     journal: peer::journal,
+    search: peer::search,
     tally_change: peer_tally_change,
     tally_report: peer_tally_report,
     date_of: peer::calendar::date_of,

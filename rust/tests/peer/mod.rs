@@ -135,6 +135,14 @@ pub fn journal(register: &[u8], place: u16) -> &[u8] {
     }
 }
 
+/// What the same-day search answers for one day.
+pub fn search(register: &[u8], place: u16, day: u16) -> Search {
+    match open(register, place) {
+        Ok(journal) => search::search(&journal.standing().collect::<Vec<_>>(), day),
+        Err(number) => Search { number, found: None, compared: 0 },
+    }
+}
+
 /// What the same-day search answers for each day from 0 to 65,535, or the number that refuses it on every day.
 pub fn search_each_day(register: &[u8], place: u16) -> Result<Vec<Search>, Number> {
     open(register, place).map(|journal| search::search_each_day(&journal))

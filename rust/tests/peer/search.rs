@@ -5,7 +5,7 @@ use necktureen::{Number, Search};
 
 /// "Those later than the submitted day, and one more if any is not later": counted over all that stand, wherever a search
 /// would end.
-fn search(standing: &[Read], day: u16) -> Search {
+pub fn search(standing: &[Read], day: u16) -> Search {
     let found = standing.iter().find(|read| read.day == day).map(|read| {
         let Read { day, value, letter, indicator, flag } = *read;
         necktureen::Read { day, value, letter, indicator, flag }
