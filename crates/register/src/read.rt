@@ -57,15 +57,26 @@ pub fn entry_of(bytes: &[u8]) -> Entry
     }
 }
 
-// The entry after k others.
+// The entry at a byte where the bytes may end: what is past their end is zero.
+fn cut_entry(bytes: &[u8], at: usize) -> Entry
+    ensures { λ r. ⌜ r ≡ entryAt (now (bytes .entry)) at ⌝ }
+{
+    if bytes.len() < at {
+        return entry_of(&bytes[0..0]);
+    }
+    entry_of(&bytes[at..])
+}
+
+// The entry after k others. One that is there whole is lent as a part of ten bytes.
 pub fn entry_after(body: &[u8], k: u8) -> Entry
     ensures { λ r. ⌜ r ≡ entryAt (now (body .entry)) (entryStart k) ⌝ }
 {
     let at = Layout::ENTRY_BYTES * (k as usize);
-    if body.len() < at {
-        return entry_of(&body[0..0]);
+    let end = at + Layout::ENTRY_BYTES;
+    if body.len() < end {
+        return cut_entry(body, at);
     }
-    entry_of(&body[at..])
+    entry_of(&body[at..end])
 }
 
 // The carry of an area, and none where the byte after the meter's entry says so.

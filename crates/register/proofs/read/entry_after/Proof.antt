@@ -1,13 +1,21 @@
--- The entry that the rest of the body begins with, or that of no bytes past its end.
+-- The part that is lent has the entry whole.
 use mathlib.Core.Path.{_∙_}
-use native.Mathlib.Omega.{arith}
-use Rattle.register.proofs.Parts.{rest-entry, none-entry}
+use Rattle.register.proofs.Parts.{part-entry}
 use borrow.Author.Needs.{needs}
 use Rattle.register.proofs.read.entry_after.Statement.{statement}
 use Rattle.register.proofs.read.entry_after.Tie as tie
 
 mul-at : tie.Need-mul-at
 mul-at c = search needs
+
+add-end : tie.Need-add-end
+add-end c = search needs
+
+cut-entry-requires : tie.Need-cut-entry-requires
+cut-entry-requires c κs = search needs
+
+returns : tie.Need-returns
+returns c = search needs
 
 sub-entry-of : tie.Need-sub-entry-of
 sub-entry-of c = search needs
@@ -21,36 +29,19 @@ part-entry-of-end c = search needs
 entry-of-requires : tie.Need-entry-of-requires
 entry-of-requires c κs = search needs
 
-returns : tie.Need-returns
-returns c = c .entry-of .ensures ∙ none-entry (c .before .before .before .before .args .body .now) _ (omega arith)
-
-sub-entry-of-2 : tie.Need-sub-entry-of-2
-sub-entry-of-2 c = search needs
-
-part-entry-of-start-2 : tie.Need-part-entry-of-start-2
-part-entry-of-start-2 c = search needs
-
-part-entry-of-end-2 : tie.Need-part-entry-of-end-2
-part-entry-of-end-2 c = search needs
-
-entry-of-requires-2 : tie.Need-entry-of-requires-2
-entry-of-requires-2 c κs = search needs
-
 returns-2 : tie.Need-returns-2
-returns-2 c = c .entry-of2 .ensures ∙ rest-entry (c .before .before .before .before .args .body .now) _
+returns-2 c = c .entry-of .ensures ∙ part-entry (c .before .before .before .before .args .body .now) _
 
 pub entry-after-spec : {M : Type 1} → statement M
 entry-after-spec =
     tie.close
     (tie.spec
     mul-at
+    add-end
+    cut-entry-requires
+    returns
     sub-entry-of
     part-entry-of-start
     part-entry-of-end
     entry-of-requires
-    returns
-    sub-entry-of-2
-    part-entry-of-start-2
-    part-entry-of-end-2
-    entry-of-requires-2
     returns-2)
