@@ -20,7 +20,7 @@ module _ (a b : List ℕ) (low high : ℕ) (h : (j : ℕ) → low ≤ j → j < 
   unfolding longAt
   alike-long j g l = cc (alike-word j g (omega arith), alike-word (j + 2) (omega arith) (omega arith))
 
-  pub alike-entry : (j : ℕ) → low ≤ j → j + 10 ≤ high → entryAt a j ≡ entryAt b j
+  alike-entry : (j : ℕ) → low ≤ j → j + 10 ≤ high → entryAt a j ≡ entryAt b j
   unfolding entryAt
   alike-entry j g l =
       cc (

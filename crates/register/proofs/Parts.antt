@@ -1,13 +1,13 @@
--- What is read at the start of a part is what is read in the whole where the part begins.
+-- What is read in a part is what is read in the whole, counted from where the part begins.
 use mathlib.Core.Path.{_≡_, sym, ap, _∙_}
 use mathlib.Core.List.{List, []}
-use Prim.Native.Nat.{ℕ, _+_, _-_, _≤_}
+use Prim.Native.Nat.{ℕ, _+_, _-_, _≤_, _<_}
 use native.Mathlib.Omega.{arith}
 use lib.ListN.{length, take, drop, length-drop, drop-of-length-le}
-use lib.Seq.{take-all, getD-take, getD-drop}
+use lib.Seq.{take-all, take-take, getD-drop}
 use Rattle.register.specs.Bytes.{byteAt, wordAt, longAt}
 use Rattle.register.specs.Entries.{entryBytes, entryAt}
-use Rattle.register.proofs.Back.{alike-entry}
+use Rattle.register.proofs.Back.{same-byte, same-word, same-long, same-entry}
 
 module _ (bytes : List ℕ) (at : ℕ) where
   -- ---- from a byte on
@@ -34,11 +34,26 @@ module _ (bytes : List ℕ) (at : ℕ) where
         later-byte 9 (at + 9) (omega arith),
       )
 
+  -- ---- in a part of n bytes
+  module _ (n : ℕ) where
+    abbrev part : List ℕ
+    part = take n (drop at bytes)
+
+    alike : take n part ≡ take n (drop at bytes)
+    alike = take-take n n (drop at bytes) (omega arith)
+
+    pub part-byte : (i j : ℕ) → at + i ≡ j → i < n → byteAt part i ≡ byteAt bytes j
+    part-byte i j e l = same-byte part (drop at bytes) n alike i l ∙ later-byte i j e
+
+    pub part-word : (i j : ℕ) → at + i ≡ j → i + 2 ≤ n → wordAt part i ≡ wordAt bytes j
+    part-word i j e l = same-word part (drop at bytes) n alike i l ∙ later-word i j e
+
+    pub part-long : (i j : ℕ) → at + i ≡ j → i + 4 ≤ n → longAt part i ≡ longAt bytes j
+    part-long i j e l = same-long part (drop at bytes) n alike i l ∙ later-long i j e
+
   -- ---- the ten bytes of an entry
   pub part-entry : entryAt (take (at + entryBytes - at) (drop at bytes)) 0 ≡ entryAt bytes at
-  part-entry =
-      alike-entry (take (at + entryBytes - at) (drop at bytes)) (drop at bytes) 0 10 (λ j g l. getD-take (at + entryBytes - at) (drop at bytes) j 0 (omega arith)) 0 (omega arith) (omega arith)
-      ∙ later-entry
+  part-entry = same-entry (part (at + entryBytes - at)) (drop at bytes) (at + entryBytes - at) (alike (at + entryBytes - at)) 0 (omega arith) ∙ later-entry
 
   -- ---- all that follows
   pub rest-entry : entryAt (take (length bytes - at) (drop at bytes)) 0 ≡ entryAt bytes at

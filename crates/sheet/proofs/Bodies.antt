@@ -2,12 +2,13 @@
 use mathlib.Core.Path.{_≡_, refl}
 use mathlib.Core.Bool.{Bool, true, false, cond}
 use mathlib.Core.List.{List}
-use Prim.Native.Nat.{ℕ, _+_, _≤_, _<_}
+use Prim.Native.Nat.{ℕ, _+_, _-_, _≤_, _<_}
 use native.Mathlib.Omega.{arith}
 use borrow.Author.Tests.{leb-true, le-leb, lt-leb}
 use lib.Dec.{leb}
-use lib.ListN.{length}
+use lib.ListN.{length, take, drop}
 use Rattle.register.specs.Bytes.{byteAt}
+use Rattle.register.proofs.Parts.{part-byte, part-word, part-long}
 use Rattle.calls.specs.declared.call.Call.{Call}
 use Rattle.sheet.specs.declared.form.Form.{Form}
 use Rattle.sheet.specs.declared.form.Form.the-variants.{Enrol, Submit, Withdraw, Report, Fold}
@@ -16,6 +17,35 @@ use Rattle.sheet.specs.declared.form.Kind.the-variants.{Known, Unknown}
 use Rattle.sheet.specs.declared.split.Next.{Next}
 use Rattle.sheet.specs.declared.split.Next.the-variants.{Found, End, Fault}
 use Rattle.sheet.specs.Sheet.{bodyBytes, callAt, kindOf, entryAt, nextAt}
+
+-- ---- a body that is lent: its call is that of the sheet where it starts
+module _ (sheet : List ℕ) (i n : ℕ) where
+  lent : (form : Form) → bodyBytes form ≤ n → callAt form (take n (drop i sheet)) 0 ≡ callAt form sheet i
+  unfolding callAt
+  lent (Enrol profile) h =
+      cc (
+        part-byte sheet i n 0 i (omega arith) (omega arith),
+        part-byte sheet i n 1 (i + 1) (omega arith) (omega arith),
+        part-long sheet i n 2 (i + 2) (omega arith) (omega arith),
+      )
+  lent Submit h =
+      cc (
+        part-byte sheet i n 0 i (omega arith) (omega arith),
+        part-word sheet i n 1 (i + 1) (omega arith) (omega arith),
+        part-word sheet i n 3 (i + 3) (omega arith) (omega arith),
+        part-long sheet i n 5 (i + 5) (omega arith) (omega arith),
+        part-byte sheet i n 9 (i + 9) (omega arith) (omega arith),
+        part-byte sheet i n 10 (i + 10) (omega arith) (omega arith),
+        part-byte sheet i n 11 (i + 11) (omega arith) (omega arith),
+      )
+  lent Withdraw h =
+      cc (
+        part-byte sheet i n 0 i (omega arith) (omega arith),
+        part-word sheet i n 1 (i + 1) (omega arith) (omega arith),
+        part-long sheet i n 3 (i + 3) (omega arith) (omega arith),
+      )
+  lent Report h = cc (part-byte sheet i n 0 i (omega arith) (omega arith))
+  lent Fold h = cc (part-byte sheet i n 0 i (omega arith) (omega arith))
 
 -- ---- what stands at a position, by its kind
 module _ (sheet : List ℕ) (at : ℕ) where
@@ -32,14 +62,16 @@ module _ (sheet : List ℕ) (at : ℕ) where
     unfolding entryAt
     unknown e = entry e
 
-    module _ {form : Form} (known : Known form ≡ kindOf (byteAt sheet at)) where
-      pub whole : at + 1 + bodyBytes form ≤ length sheet → Found (callAt form sheet (at + 1)) (at + 1 + bodyBytes form) ≡ nextAt sheet at
+    module _ {form : Form} {size : ℕ} (known : Known form ≡ kindOf (byteAt sheet at)) (sized : size ≡ bodyBytes form) where
+      -- what is lent is the body alone
+      pub whole : at + 1 + size ≤ length sheet → Found (callAt form (take (at + 1 + size - (at + 1)) (drop (at + 1) sheet)) 0) (at + 1 + size) ≡ nextAt sheet at
       unfolding entryAt
-      whole h = rw (le-leb (at + 1 + bodyBytes form) (length sheet) h) at (entry known)
+      whole h =
+          rw (lent sheet (at + 1) (at + 1 + size - (at + 1)) form (omega arith), sized) (rw (le-leb (at + 1 + bodyBytes form) (length sheet) (omega arith)) at (entry known))
 
-      pub cut : length sheet < at + 1 + bodyBytes form → Fault ≡ nextAt sheet at
+      pub cut : length sheet < at + 1 + size → Fault ≡ nextAt sheet at
       unfolding entryAt
-      cut h = rw (lt-leb (at + 1 + bodyBytes form) (length sheet) h) at (entry known)
+      cut h = rw (lt-leb (at + 1 + bodyBytes form) (length sheet) (omega arith)) at (entry known)
 
 -- ---- where the next entry starts
 some-body : (form : Form) → 1 ≤ bodyBytes form

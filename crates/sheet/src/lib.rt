@@ -2,6 +2,5 @@
 mod body;
 pub mod claims;
 pub mod form;
-mod read;
 pub mod size;
 pub mod split;

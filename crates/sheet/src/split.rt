@@ -23,11 +23,12 @@ pub fn next_at(sheet: &[u8], at: usize) -> Next
     }
     match kind_of(sheet[at]) {
         Kind::Known(form) => {
-            let next = at + 1 + body_bytes(form) as usize;
+            let start = at + 1;
+            let next = start + body_bytes(form) as usize;
             if sheet.len() < next {
                 return Next::Fault;
             }
-            Next::Found(call_at(sheet, form, at + 1), next)
+            Next::Found(call_at(&sheet[start..next], form), next)
         }
         Kind::Unknown => Next::Fault,
     }

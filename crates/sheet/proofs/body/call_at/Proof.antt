@@ -7,31 +7,31 @@ enum-known-form : tie.Need-enum-known-form
 enum-known-form c = search needs
 
 enrol-at-requires : tie.Need-enrol-at-requires
-enrol-at-requires c κs = rw (c .before .form .given .1) at (c .before .before .before .before .pre)
+enrol-at-requires c κs = search needs
 
 enum-told : tie.Need-enum-told
 enum-told c = search needs
 
 submit-at-requires : tie.Need-submit-at-requires
-submit-at-requires c κs = rw (c .enum-told .given .1) at (c .before .before .before .pre)
+submit-at-requires c κs = search needs
 
 enum-told-2 : tie.Need-enum-told-2
 enum-told-2 c = search needs
 
 withdraw-at-requires : tie.Need-withdraw-at-requires
-withdraw-at-requires c κs = rw (c .enum-told2 .given .1) at (c .before .before .before .pre)
+withdraw-at-requires c κs = search needs
 
 enum-told-3 : tie.Need-enum-told-3
 enum-told-3 c = search needs
 
 report-at-requires : tie.Need-report-at-requires
-report-at-requires c κs = rw (c .enum-told3 .given .1) at (c .before .before .before .pre)
+report-at-requires c κs = search needs
 
 enum-told-4 : tie.Need-enum-told-4
 enum-told-4 c = search needs
 
 fold-at-requires : tie.Need-fold-at-requires
-fold-at-requires c κs = rw (c .enum-told4 .given .1) at (c .before .before .before .pre)
+fold-at-requires c κs = search needs
 
 returns : tie.Need-returns
 returns c = rw (c .before .before .form .given .1) (c .enrol-at .ensures)

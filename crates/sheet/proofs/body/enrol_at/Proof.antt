@@ -7,14 +7,8 @@ use Rattle.sheet.proofs.body.enrol_at.Tie as tie
 place-at-requires : tie.Need-place-at-requires
 place-at-requires c κs = search needs
 
-add-dials : tie.Need-add-dials
-add-dials c = search needs
-
-shared-slice-read-dials : tie.Need-shared-slice-read-dials
-shared-slice-read-dials c = search needs
-
-add-long-at : tie.Need-add-long-at
-add-long-at c = search needs
+byte-at-requires : tie.Need-byte-at-requires
+byte-at-requires c κs = search needs
 
 long-at-requires : tie.Need-long-at-requires
 long-at-requires c κs = search needs
@@ -24,12 +18,4 @@ unfolding callAt
 returns c = cc
 
 pub enrol-at-spec : {M : Type 1} → statement M
-enrol-at-spec =
-    tie.close
-    (tie.spec
-    place-at-requires
-    add-dials
-    shared-slice-read-dials
-    add-long-at
-    long-at-requires
-    returns)
+enrol-at-spec = tie.close (tie.spec place-at-requires byte-at-requires long-at-requires returns)

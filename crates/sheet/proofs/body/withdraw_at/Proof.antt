@@ -7,14 +7,8 @@ use Rattle.sheet.proofs.body.withdraw_at.Tie as tie
 place-at-requires : tie.Need-place-at-requires
 place-at-requires c κs = search needs
 
-add-word-at : tie.Need-add-word-at
-add-word-at c = search needs
-
 word-at-requires : tie.Need-word-at-requires
 word-at-requires c κs = search needs
-
-add-long-at : tie.Need-add-long-at
-add-long-at c = search needs
 
 long-at-requires : tie.Need-long-at-requires
 long-at-requires c κs = search needs
@@ -24,6 +18,4 @@ unfolding callAt
 returns c = cc
 
 pub withdraw-at-spec : {M : Type 1} → statement M
-withdraw-at-spec =
-    tie.close
-    (tie.spec place-at-requires add-word-at word-at-requires add-long-at long-at-requires returns)
+withdraw-at-spec = tie.close (tie.spec place-at-requires word-at-requires long-at-requires returns)

@@ -1,4 +1,4 @@
--- The tests come in the definition's order: the end, an unknown kind, a cut body.
+-- The tests come in the definition's order: the end, an unknown kind, a cut body. What is lent then has the body whole.
 use mathlib.Core.Path.{sym, _∙_}
 use native.Mathlib.Omega.{arith}
 use Rattle.sheet.proofs.Bodies.{past, unknown, whole, cut}
@@ -18,8 +18,8 @@ kind-of-requires c κs = search needs
 enum-known-form : tie.Need-enum-known-form
 enum-known-form c = search needs
 
-add-next : tie.Need-add-next
-add-next c = search needs
+add-start : tie.Need-add-start
+add-start c = search needs
 
 body-bytes-requires : tie.Need-body-bytes-requires
 body-bytes-requires c κs = search needs
@@ -27,27 +27,33 @@ body-bytes-requires c κs = search needs
 cast-next : tie.Need-cast-next
 cast-next c = search needs
 
-add-next-2 : tie.Need-add-next-2
-add-next-2 c = search needs
+add-next : tie.Need-add-next
+add-next c = search needs
 
 returns-2 : tie.Need-returns-2
 returns-2 c =
     let read = c .before .before .before .before .before in
     let known = sym (c .before .before .before .form .given .1) ∙ read .kind-of .ensures in
-    cut _ _ (read .before .before .if1 .left) known (omega (arith, c .if2 .taken, c .before .body-bytes .ensures))
+    cut _ _ (read .before .before .if1 .left) known (c .before .body-bytes .ensures) (omega (arith, c .if2 .taken))
 
-add-call-at : tie.Need-add-call-at
-add-call-at c = search needs
+sub-call-at : tie.Need-sub-call-at
+sub-call-at c = search needs
+
+part-call-at-start : tie.Need-part-call-at-start
+part-call-at-start c = search needs
+
+part-call-at-end : tie.Need-part-call-at-end
+part-call-at-end c = search needs
 
 call-at-requires : tie.Need-call-at-requires
-call-at-requires c κs = omega (arith, c .if2 .left, c .before .body-bytes .ensures)
+call-at-requires c κs = search needs
 
 returns-3 : tie.Need-returns-3
 returns-3 c =
-    let body = c .before .before in
+    let body = c .before .before .before in
     let read = body .before .before .before .before in
     let known = sym (body .before .before .form .given .1) ∙ read .kind-of .ensures in
-    rw (c .call-at .ensures, body .body-bytes .ensures) (whole _ _ (read .before .before .if1 .left) known (omega (arith, c .before .if2 .left, body .body-bytes .ensures)))
+    rw (c .call-at .ensures) (whole _ _ (read .before .before .if1 .left) known (body .body-bytes .ensures) (omega (arith, c .before .before .if2 .left)))
 
 enum-told : tie.Need-enum-told
 enum-told c = search needs
@@ -65,12 +71,14 @@ next-at-spec =
     shared-slice-read-kind-of
     kind-of-requires
     enum-known-form
-    add-next
+    add-start
     body-bytes-requires
     cast-next
-    add-next-2
+    add-next
     returns-2
-    add-call-at
+    sub-call-at
+    part-call-at-start
+    part-call-at-end
     call-at-requires
     enum-told
     returns-3
