@@ -1,11 +1,8 @@
--- Every row of the tables computes to true, the year of a day by counting to it. For the one row of 2100 the count is long, so there the year is
--- had from the day on which it starts.
+-- Every row of the tables computes to true, the year of a day by counting to it. To 2100 the count is long, so there the year is had from the
+-- day on which it starts.
 use mathlib.Core.Path.{_≡_, refl}
-use mathlib.Core.Bool.{Bool, true, false, _&&_}
-use mathlib.Core.List.{List, [], _∷_}
-use Prim.Native.Nat.{ℕ, zero, suc}
+use mathlib.Core.Bool.{true}
 use lib.Dec.{lit<, lit≤}
-use lib.ListN.{take, drop}
 use Rattle.calendar.specs.Year.{isLeap, yearLength, yearStart}
 use Rattle.calendar.specs.Month.{hasThirty, lengthIn, monthLength}
 use Rattle.calendar.specs.Date.{next, after, dateOf}
@@ -19,14 +16,9 @@ use Rattle.rules.specs.Settings.{stepBack}
 use Rattle.rules.specs.Detection.{isPlain, scaledOf, isSmallStep, isNotRollover, isNearTurn, isLikeRate, isSmallPart, isSmallTurn, isSmallAdvance, isRollover, detected}
 use Rattle.rules.specs.Indicator.{indicated, indicatedNumber, indicatedFlag}
 use Rattle.rules.specs.Volume.{advanceOver, hasVolumeCheck, hasThreshold, comparedWith, compared, comparedNumber, daysInYear, isWithinCapacity, isLowVolume, isHighVolume, isOverCapacity, volumeNumber}
-use Rattle.rules.specs.Edges.{Edge, plain, edges, moreEdges, standingReads, submittedRead, detectedAt, numberAt, holdsAt, holdAt, EdgesHold}
+use Rattle.rules.specs.Edges.{plain, edges, moreEdges, edgesOf2100, standingReads, submittedRead, detectedAt, numberAt, holdsAt, holdAt, EdgesHold}
 use Rattle.rules.proofs.edges.edges_hold.Statement.{statement}
 use Rattle.rules.proofs.edges.edges_hold.Tie as tie
-
--- ---- every row but that of 2100
-others : (holdAt edges ≡ true) × ((holdAt (take 17 moreEdges) ≡ true) × (holdAt (drop 1 (drop 17 moreEdges)) ≡ true))
-unfolding isLeap yearLength hasThirty lengthIn monthLength next after dateOf tenTo advanceOf slotAt recentOf isUnchecked isPlain scaledOf stepBack isSmallStep isNotRollover isNearTurn isLikeRate isSmallPart isSmallTurn isSmallAdvance isRollover detected indicated indicatedNumber indicatedFlag advanceOver hasVolumeCheck hasThreshold comparedWith compared comparedNumber daysInYear isWithinCapacity isLowVolume isHighVolume isOverCapacity volumeNumber plain edges moreEdges standingReads submittedRead detectedAt numberAt holdsAt holdAt
-others = (refl, (refl, refl))
 
 -- ---- the row of 2100, which is the 100th year after 2000
 starts-2100 : YearAt 36536 100
@@ -36,24 +28,13 @@ starts-2100 = record { held = lit< tt; from = lit≤ tt; to = lit< tt }
 year-2100 : dateOf 36536 .year ≡ 2100
 year-2100 = year-at-date 36536 100 starts-2100 (lit≤ tt)
 
-row-2100 : holdAt (take 1 (drop 17 moreEdges)) ≡ true
-unfolding isLeap yearLength tenTo advanceOf slotAt recentOf isUnchecked isPlain scaledOf stepBack isSmallStep isNotRollover isNearTurn isLikeRate isSmallPart isSmallTurn isSmallAdvance isRollover detected indicated indicatedNumber indicatedFlag advanceOver hasVolumeCheck hasThreshold comparedWith compared comparedNumber daysInYear isWithinCapacity isLowVolume isHighVolume isOverCapacity volumeNumber plain moreEdges standingReads submittedRead detectedAt numberAt holdsAt holdAt
+row-2100 : holdAt edgesOf2100 ≡ true
+unfolding isLeap yearLength tenTo advanceOf slotAt recentOf isUnchecked isPlain scaledOf stepBack isSmallStep isNotRollover isNearTurn isLikeRate isSmallPart isSmallTurn isSmallAdvance isRollover detected indicated indicatedNumber indicatedFlag advanceOver hasVolumeCheck hasThreshold comparedWith compared comparedNumber daysInYear isWithinCapacity isLowVolume isHighVolume isOverCapacity volumeNumber plain edgesOf2100 standingReads submittedRead detectedAt numberAt holdsAt holdAt
 row-2100 = rw year-2100
 
--- ---- all rows
-both : (a b c : Bool) → a && b ≡ true → (b ≡ true → c ≡ true) → a && c ≡ true
-both true b c h f = f h
-both false b c h f = h
-
-joined : (n : ℕ) (es : List Edge) → holdAt (take n es) ≡ true → holdAt (drop n es) ≡ true → holdAt es ≡ true
-unfolding holdAt
-joined zero es h t = t
-joined (suc n) [] h t = refl
-joined (suc n) (e ∷ es) h t = both (holdsAt e) (holdAt (take n es)) (holdAt es) h (λ g. joined n es g t)
-
 returns : tie.Need-returns
-unfolding EdgesHold
-returns c = (others .0, joined 17 moreEdges (others .1 .0) (joined 1 (drop 17 moreEdges) row-2100 (others .1 .1)))
+unfolding isLeap yearLength hasThirty lengthIn monthLength next after dateOf tenTo advanceOf slotAt recentOf isUnchecked isPlain scaledOf stepBack isSmallStep isNotRollover isNearTurn isLikeRate isSmallPart isSmallTurn isSmallAdvance isRollover detected indicated indicatedNumber indicatedFlag advanceOver hasVolumeCheck hasThreshold comparedWith compared comparedNumber daysInYear isWithinCapacity isLowVolume isHighVolume isOverCapacity volumeNumber plain edges moreEdges standingReads submittedRead detectedAt numberAt holdsAt holdAt EdgesHold
+returns c = (refl, refl, row-2100)
 
 pub edges-hold-spec : {M : Type 1} → statement M
 edges-hold-spec = tie.close (tie.spec returns)
