@@ -20,15 +20,15 @@ use Rattle.sheet.specs.Sheet.{bodyBytes, callAt, kindOf, entryAt, nextAt
 
 -- ---- a body that is lent: its call is that of the sheet where it starts
 module _ (sheet : List ℕ) (i n : ℕ) where
-  lent : (form : Form) → bodyBytes form ≤ n → callAt form (take n (drop i sheet)) 0 ≡ callAt form sheet i
+  part-call : (form : Form) → bodyBytes form ≤ n → callAt form (take n (drop i sheet)) 0 ≡ callAt form sheet i
   unfolding callAt
-  lent (Enrol profile) h =
+  part-call (Enrol profile) h =
       cc (
         part-byte sheet i n 0 i (omega arith) (omega arith),
         part-byte sheet i n 1 (i + 1) (omega arith) (omega arith),
         part-long sheet i n 2 (i + 2) (omega arith) (omega arith),
       )
-  lent Submit h =
+  part-call Submit h =
       cc (
         part-byte sheet i n 0 i (omega arith) (omega arith),
         part-word sheet i n 1 (i + 1) (omega arith) (omega arith),
@@ -38,14 +38,17 @@ module _ (sheet : List ℕ) (i n : ℕ) where
         part-byte sheet i n 10 (i + 10) (omega arith) (omega arith),
         part-byte sheet i n 11 (i + 11) (omega arith) (omega arith),
       )
-  lent Withdraw h =
+  part-call Withdraw h =
       cc (
         part-byte sheet i n 0 i (omega arith) (omega arith),
         part-word sheet i n 1 (i + 1) (omega arith) (omega arith),
         part-long sheet i n 3 (i + 3) (omega arith) (omega arith),
       )
-  lent Report h = cc (part-byte sheet i n 0 i (omega arith) (omega arith))
-  lent Fold h = cc (part-byte sheet i n 0 i (omega arith) (omega arith))
+  part-call Report h = cc (part-byte sheet i n 0 i (omega arith) (omega arith))
+  part-call Fold h = cc (part-byte sheet i n 0 i (omega arith) (omega arith))
+
+pub lent : (sheet : List ℕ) (i : ℕ) (form : Form) → callAt form (take (i + bodyBytes form - i) (drop i sheet)) 0 ≡ callAt form sheet i
+lent sheet i form = part-call sheet i (i + bodyBytes form - i) form (omega arith)
 
 -- ---- what stands at a position, by its kind
 module _ (sheet : List ℕ) (at : ℕ) where
@@ -63,11 +66,9 @@ module _ (sheet : List ℕ) (at : ℕ) where
     unknown e = entry e
 
     module _ {form : Form} {size : ℕ} (known : Known form ≡ kindOf (byteAt sheet at)) (sized : size ≡ bodyBytes form) where
-      -- what is lent is the body alone
-      pub whole : at + 1 + size ≤ length sheet → Found (callAt form (take (at + 1 + size - (at + 1)) (drop (at + 1) sheet)) 0) (at + 1 + size) ≡ nextAt sheet at
+      pub whole : at + 1 + size ≤ length sheet → Found (callAt form sheet (at + 1)) (at + 1 + size) ≡ nextAt sheet at
       unfolding entryAt
-      whole h =
-          rw (lent sheet (at + 1) (at + 1 + size - (at + 1)) form (omega arith), sized) (rw (le-leb (at + 1 + bodyBytes form) (length sheet) (omega arith)) at (entry known))
+      whole h = rw sized (rw (le-leb (at + 1 + bodyBytes form) (length sheet) (omega arith)) at (entry known))
 
       pub cut : length sheet < at + 1 + size → Fault ≡ nextAt sheet at
       unfolding entryAt

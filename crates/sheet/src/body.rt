@@ -1,7 +1,10 @@
 // The body of an entry, read by its form. What is lent is the body alone, so each field has its fixed byte.
 ghost use mathlib.Core.Path.{_≡_};
+ghost use Prim.Native.Nat.{_+_, _≤_};
+ghost use lib.ListN.{length};
 ghost use Rattle.register.specs.Bytes.{byteAt};
-ghost use Rattle.sheet.specs.Sheet.{callAt};
+ghost use Rattle.sheet.specs.Sheet.{bodyBytes, callAt};
+use crate::form::BodySize;
 use crate::form::Form;
 use calls::call::Call;
 use register::read::byte_at;
@@ -11,16 +14,16 @@ use terms::profile::Profile;
 use terms::submission::Submission;
 
 // A place is one byte here, and two in a call.
-fn place_at(body: &[u8]) -> u16
-    ensures { λ r. ⌜ r ≡ byteAt (now (body .entry)) 0 ⌝ }
+fn place_at(bytes: &[u8], i: usize) -> u16
+    ensures { λ r. ⌜ r ≡ byteAt (now (bytes .entry)) i ⌝ }
 {
-    byte_at(body, 0) as u16
+    byte_at(bytes, i) as u16
 }
 
 fn enrol_at(body: &[u8], profile: Profile) -> Call
     ensures { λ r. ⌜ r ≡ callAt (Form.Enrol profile) (now (body .entry)) 0 ⌝ }
 {
-    let place = place_at(body);
+    let place = place_at(body, 0);
     let dials = byte_at(body, 1);
     let capacity = long_at(body, 2);
     Call::Enrol {
@@ -34,7 +37,7 @@ fn enrol_at(body: &[u8], profile: Profile) -> Call
 fn submit_at(body: &[u8]) -> Call
     ensures { λ r. ⌜ r ≡ callAt Form.Submit (now (body .entry)) 0 ⌝ }
 {
-    let place = place_at(body);
+    let place = place_at(body, 0);
     let submitted = word_at(body, 1);
     let day = word_at(body, 3);
     let value = long_at(body, 5);
@@ -52,34 +55,37 @@ fn submit_at(body: &[u8]) -> Call
 fn withdraw_at(body: &[u8]) -> Call
     ensures { λ r. ⌜ r ≡ callAt Form.Withdraw (now (body .entry)) 0 ⌝ }
 {
-    let place = place_at(body);
+    let place = place_at(body, 0);
     let day = word_at(body, 1);
     let value = long_at(body, 3);
     Call::Withdraw { place, day, value }
 }
 
-fn report_at(body: &[u8]) -> Call
-    ensures { λ r. ⌜ r ≡ callAt Form.Report (now (body .entry)) 0 ⌝ }
-{
-    let place = place_at(body);
-    Call::Report { place }
-}
-
-fn fold_at(body: &[u8]) -> Call
-    ensures { λ r. ⌜ r ≡ callAt Form.Fold (now (body .entry)) 0 ⌝ }
-{
-    let place = place_at(body);
-    Call::Fold { place }
-}
-
-pub(crate) fn call_at(body: &[u8], form: Form) -> Call
-    ensures { λ r. ⌜ r ≡ callAt form (now (body .entry)) 0 ⌝ }
+// The body lies whole in the sheet. Its length is written out in each form, so that reading a field of it needs no test.
+pub(crate) fn call_at(sheet: &[u8], form: Form, i: usize) -> Call
+    requires { ⌜ i + bodyBytes form ≤ length (now sheet) ⌝ }
+    ensures { λ r. ⌜ r ≡ callAt form (now (sheet .entry)) i ⌝ }
 {
     match form {
-        Form::Enrol(profile) => enrol_at(body, profile),
-        Form::Submit => submit_at(body),
-        Form::Withdraw => withdraw_at(body),
-        Form::Report => report_at(body),
-        Form::Fold => fold_at(body),
+        Form::Enrol(profile) => {
+            let end = i + BodySize::ENROL as usize;
+            enrol_at(&sheet[i..end], profile)
+        }
+        Form::Submit => {
+            let end = i + BodySize::SUBMIT as usize;
+            submit_at(&sheet[i..end])
+        }
+        Form::Withdraw => {
+            let end = i + BodySize::WITHDRAW as usize;
+            withdraw_at(&sheet[i..end])
+        }
+        Form::Report => {
+            let place = place_at(sheet, i);
+            Call::Report { place }
+        }
+        Form::Fold => {
+            let place = place_at(sheet, i);
+            Call::Fold { place }
+        }
     }
 }

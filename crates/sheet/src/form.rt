@@ -32,15 +32,30 @@ pub fn kind_of(byte: u8) -> Kind
     }
 }
 
+// How long a body is.
+pub struct BodySize;
+
+impl BodySize {
+    pub const ENROL: u8 = 6;
+
+    pub const SUBMIT: u8 = 12;
+
+    pub const WITHDRAW: u8 = 7;
+
+    pub const REPORT: u8 = 1;
+
+    pub const FOLD: u8 = 1;
+}
+
 // A byte holds it, so what is added to a position in a sheet is small.
 pub fn body_bytes(form: Form) -> u8
     ensures { λ r. ⌜ r ≡ bodyBytes form ⌝ }
 {
     match form {
-        Form::Enrol(_) => 6,
-        Form::Submit => 12,
-        Form::Withdraw => 7,
-        Form::Report => 1,
-        Form::Fold => 1,
+        Form::Enrol(_) => BodySize::ENROL,
+        Form::Submit => BodySize::SUBMIT,
+        Form::Withdraw => BodySize::WITHDRAW,
+        Form::Report => BodySize::REPORT,
+        Form::Fold => BodySize::FOLD,
     }
 }

@@ -28,7 +28,7 @@ pub fn next_at(sheet: &[u8], at: usize) -> Next
             if sheet.len() < next {
                 return Next::Fault;
             }
-            Next::Found(call_at(&sheet[start..next], form), next)
+            Next::Found(call_at(sheet, form, start), next)
         }
         Kind::Unknown => Next::Fault,
     }

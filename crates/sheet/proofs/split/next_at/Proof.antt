@@ -36,24 +36,15 @@ returns-2 c =
     let known = sym (c .before .before .before .form .given .1) ∙ read .kind-of .ensures in
     cut _ _ (read .before .before .if1 .left) known (c .before .body-bytes .ensures) (omega (arith, c .if2 .taken))
 
-sub-call-at : tie.Need-sub-call-at
-sub-call-at c = search needs
-
-part-call-at-start : tie.Need-part-call-at-start
-part-call-at-start c = search needs
-
-part-call-at-end : tie.Need-part-call-at-end
-part-call-at-end c = search needs
-
 call-at-requires : tie.Need-call-at-requires
 call-at-requires c κs = search needs
 
 returns-3 : tie.Need-returns-3
 returns-3 c =
-    let body = c .before .before .before in
+    let body = c .before .before in
     let read = body .before .before .before .before in
     let known = sym (body .before .before .form .given .1) ∙ read .kind-of .ensures in
-    rw (c .call-at .ensures) (whole _ _ (read .before .before .if1 .left) known (body .body-bytes .ensures) (omega (arith, c .before .before .if2 .left)))
+    rw (c .call-at .ensures) (whole _ _ (read .before .before .if1 .left) known (body .body-bytes .ensures) (omega (arith, c .before .if2 .left)))
 
 enum-told : tie.Need-enum-told
 enum-told c = search needs
@@ -76,9 +67,6 @@ next-at-spec =
     cast-next
     add-next
     returns-2
-    sub-call-at
-    part-call-at-start
-    part-call-at-end
     call-at-requires
     enum-told
     returns-3
