@@ -26,7 +26,7 @@ use register::area::Layout;
 use register::head::Head;
 use register::head::head_bytes;
 use register::read::head_of;
-use register::zeros::is_zero_from;
+use zeros::is_zero_from;
 
 // Counts over a journal's entries.
 pub struct Counts {

@@ -1,4 +1,5 @@
 pub mod Part
 pub mod Search
 pub mod Withdrawal
+pub mod Examples
 pub mod Inner

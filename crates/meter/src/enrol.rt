@@ -12,12 +12,12 @@ use register::area::Layout;
 use register::head::Head;
 use register::head::no_carry;
 use register::write::put_head;
-use register::zeros::is_zero;
 use terms::answer::Answer;
 use terms::answer::accept;
 use terms::answer::refuse;
 use terms::number::Number;
 use terms::profile::Profile;
+use zeros::is_zero;
 
 // The head that an enrolment writes.
 fn plate(profile: Profile, dials: u8, capacity: u32) -> Head

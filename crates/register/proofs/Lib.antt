@@ -4,4 +4,3 @@ pub mod Heads
 pub mod Lent
 pub mod Parts
 pub mod Body
-pub mod Blocks

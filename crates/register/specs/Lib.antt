@@ -3,4 +3,3 @@ pub mod Bytes
 pub mod Entries
 pub mod Head
 pub mod Examples
-pub mod Inner

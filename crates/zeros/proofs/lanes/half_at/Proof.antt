@@ -1,8 +1,8 @@
 -- Eight times eight bytes side by side, in the two lanes by turns.
-use Rattle.register.proofs.Blocks.{block-zero, block-adds}
+use Rattle.zeros.proofs.Blocks.{block-zero, block-adds}
 use borrow.Author.Needs.{needs}
-use Rattle.register.proofs.zeros.half_at.Statement.{statement}
-use Rattle.register.proofs.zeros.half_at.Tie as tie
+use Rattle.zeros.proofs.lanes.half_at.Statement.{statement}
+use Rattle.zeros.proofs.lanes.half_at.Tie as tie
 
 eight-at-requires : tie.Need-eight-at-requires
 eight-at-requires c κs = search needs

@@ -2,8 +2,8 @@
 use mathlib.Core.Path.{_≡_}
 use mathlib.Core.List.{List}
 use Prim.Native.Nat.{ℕ, _+_, _≤_, _<_}
 use Rattle.register.specs.Bytes.{byteAt}
-use Rattle.register.specs.declared.zeros.Lanes.{Lanes}
+use Rattle.zeros.specs.declared.lanes.Lanes.{Lanes}
 
 -- n bytes from i on are zero
 abbrev pub AreZero : List ℕ → ℕ → ℕ → Type 0

@@ -1,8 +1,8 @@
 -- One half after the other.
-use Rattle.register.proofs.Blocks.{adds-adds}
+use Rattle.zeros.proofs.Blocks.{adds-adds}
 use borrow.Author.Needs.{needs}
-use Rattle.register.proofs.zeros.block_at.Statement.{statement}
-use Rattle.register.proofs.zeros.block_at.Tie as tie
+use Rattle.zeros.proofs.lanes.block_at.Statement.{statement}
+use Rattle.zeros.proofs.lanes.block_at.Tie as tie
 
 half-at-requires : tie.Need-half-at-requires
 half-at-requires c κs = search needs

@@ -1,8 +1,8 @@
 -- Two numbers of two bytes each, so the sum fits.
 use borrow.Author.Needs.{needs}
-use Rattle.register.proofs.Blocks.{four-zero}
-use Rattle.register.proofs.zeros.four_at.Statement.{statement}
-use Rattle.register.proofs.zeros.four_at.Tie as tie
+use Rattle.zeros.proofs.Blocks.{four-zero}
+use Rattle.zeros.proofs.lanes.four_at.Statement.{statement}
+use Rattle.zeros.proofs.lanes.four_at.Tie as tie
 
 two-at-requires : tie.Need-two-at-requires
 two-at-requires c κs = search needs

@@ -9,10 +9,10 @@ use lib.Bits.{bitOr, or-add-and, and-le-l, and-le-r}
 use lib.Dec.{eqb, leb}
 use lib.ListN.{length, getD, drop, List·getD-eq-default}
 use lib.Seq.{getD-drop}
 use Rattle.register.specs.Bytes.{byteAt}
-use Rattle.register.specs.declared.zeros.Lanes.{Lanes}
+use Rattle.zeros.specs.declared.lanes.Lanes.{Lanes}
 use Rattle.register.specs.Area.{allZero}
-use Rattle.register.specs.Inner.Zeros.{AreZero, Zeros, Adds}
+use Rattle.zeros.specs.Inner.Zeros.{AreZero, Zeros, Adds}
 
 -- below a number or from it on
 pub either-side : {A : Type 0} (i j : ℕ) → (j < i → A) → (i ≤ j → A) → A

@@ -8,9 +8,9 @@ use native.Mathlib.Omega.{arith}
 use lib.Dec.{eqb}
 use lib.ListN.{length, getD, drop, drop-of-length-le}
 use lib.Seq.{drop-cons}
 use Rattle.register.specs.Area.{allZero}
-use Rattle.register.proofs.zeros.few_zero_from.Statement.{statement}
-use Rattle.register.proofs.zeros.few_zero_from.Tie as tie
+use Rattle.zeros.proofs.few_zero_from.Statement.{statement}
+use Rattle.zeros.proofs.few_zero_from.Tie as tie
 
 abbrev Inv-loop : tie.InvT-loop
 Inv-loop bytes from zero₀ i₀ zero i = zero && allZero (drop i bytes) ≡ allZero (drop from bytes)

@@ -2,10 +2,10 @@
 use mathlib.Core.Path.{_≡_, refl}
 use Prim.Native.Nat.{_+_, _-_, _≤_}
 use native.Mathlib.Omega.{arith}
-use Rattle.register.specs.Inner.Zeros.{Clear}
-use Rattle.register.proofs.Blocks.{or-parts, or-none, from-zero, Passed, passed-none, passed-more, passed-all}
-use Rattle.register.proofs.zeros.blocks_zero_from.Statement.{statement}
-use Rattle.register.proofs.zeros.blocks_zero_from.Tie as tie
+use Rattle.zeros.specs.Inner.Zeros.{Clear}
+use Rattle.zeros.proofs.Blocks.{or-parts, or-none, from-zero, Passed, passed-none, passed-more, passed-all}
+use Rattle.zeros.proofs.blocks_zero_from.Statement.{statement}
+use Rattle.zeros.proofs.blocks_zero_from.Tie as tie
 
 abbrev Inv-loop : tie.InvT-loop
 Inv-loop bytes from last lanes₀ i₀ lanes i = (from ≤ i) × Passed (Clear lanes) bytes from last 128 i

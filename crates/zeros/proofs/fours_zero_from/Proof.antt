@@ -1,9 +1,9 @@
 -- The first four bytes reach the last four, and those the end.
 use native.Mathlib.Omega.{arith}
 use borrow.Author.Needs.{needs}
-use Rattle.register.proofs.Blocks.{both-ends}
-use Rattle.register.proofs.zeros.fours_zero_from.Statement.{statement}
-use Rattle.register.proofs.zeros.fours_zero_from.Tie as tie
+use Rattle.zeros.proofs.Blocks.{both-ends}
+use Rattle.zeros.proofs.fours_zero_from.Statement.{statement}
+use Rattle.zeros.proofs.fours_zero_from.Tie as tie
 
 four-at-requires : tie.Need-four-at-requires
 four-at-requires c κs = search needs

@@ -2,9 +2,9 @@
 use mathlib.Core.Path.{_≡_}
 use Prim.Native.Nat.{_+_, _-_, _≤_}
 use native.Mathlib.Omega.{arith}
-use Rattle.register.proofs.Blocks.{or-parts, or-none, from-zero, Passed, passed-none, passed-more, passed-all}
-use Rattle.register.proofs.zeros.eights_zero_from.Statement.{statement}
-use Rattle.register.proofs.zeros.eights_zero_from.Tie as tie
+use Rattle.zeros.proofs.Blocks.{or-parts, or-none, from-zero, Passed, passed-none, passed-more, passed-all}
+use Rattle.zeros.proofs.eights_zero_from.Statement.{statement}
+use Rattle.zeros.proofs.eights_zero_from.Tie as tie
 
 abbrev Inv-loop : tie.InvT-loop
 Inv-loop bytes from last bits₀ i₀ bits i = (from ≤ i) × Passed (bits ≡ 0) bytes from last 8 i

@@ -1,8 +1,8 @@
 -- Two numbers of four bytes each, so the sum fits.
 use borrow.Author.Needs.{needs}
-use Rattle.register.proofs.Blocks.{eight-zero}
-use Rattle.register.proofs.zeros.eight_at.Statement.{statement}
-use Rattle.register.proofs.zeros.eight_at.Tie as tie
+use Rattle.zeros.proofs.Blocks.{eight-zero}
+use Rattle.zeros.proofs.lanes.eight_at.Statement.{statement}
+use Rattle.zeros.proofs.lanes.eight_at.Tie as tie
 
 four-at-requires : tie.Need-four-at-requires
 four-at-requires c κs = search needs

@@ -2,9 +2,9 @@
 use Prim.Native.Nat.{_+_}
 use native.Mathlib.Omega.{arith}
 use borrow.Author.Needs.{needs}
-use Rattle.register.proofs.Blocks.{two-zero}
-use Rattle.register.proofs.zeros.two_at.Statement.{statement}
-use Rattle.register.proofs.zeros.two_at.Tie as tie
+use Rattle.zeros.proofs.Blocks.{two-zero}
+use Rattle.zeros.proofs.lanes.two_at.Statement.{statement}
+use Rattle.zeros.proofs.lanes.two_at.Tie as tie
 
 shared-slice-read-low : tie.Need-shared-slice-read-low
 shared-slice-read-low c = search needs
