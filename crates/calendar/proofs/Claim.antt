@@ -6,77 +6,77 @@ use native.Mathlib.Omega.{arith}
 use borrow.Author.Tests.{ltb-true, ltb-false}
 use lib.Dec.{ltb}
 use Rattle.calendar.specs.declared.date.Date.{Date}
-use Rattle.calendar.specs.Year.{isLeap, yearLength, yearStart, firstYear, yearsHeld}
-use Rattle.calendar.specs.Month.{hasThirty, lengthIn, monthLength}
-use Rattle.calendar.specs.Date.{date, isInCalendar, noDate, after, firstDate, lastDay, dateOf, dayOf}
-use Rattle.calendar.specs.Claims.{Earlier, byYear, lastDate, CalendarHolds}
-use Rattle.calendar.specs.Inner.Placed.{daysBefore}
-use Rattle.calendar.proofs.Years.{start-bounds}
-use Rattle.calendar.proofs.Counting.{to-year}
-use Rattle.calendar.proofs.Order.{calendar-true, true-calendar, after-in}
-use Rattle.calendar.proofs.Search.{date-past, after-earlier, Found, has, none, found-day}
-use Rattle.calendar.proofs.Dates.{day-some, number_of, counted, number-some, day-number, date-day}
+use Rattle.calendar.specs.Year.{is_leap, year_length, year_start, first_year, years_held}
+use Rattle.calendar.specs.Month.{has_thirty, length_in, month_length}
+use Rattle.calendar.specs.Date.{date, is_in_calendar, no_date, after, first_date, last_day, date_of, day_of}
+use Rattle.calendar.specs.Claims.{Earlier, by_year, last_date, CalendarHolds}
+use Rattle.calendar.specs.Inner.Placed.{days_before}
+use Rattle.calendar.proofs.Years.{start_bounds}
+use Rattle.calendar.proofs.Counting.{to_year}
+use Rattle.calendar.proofs.Order.{calendar_true, true_calendar, after_in}
+use Rattle.calendar.proofs.Search.{date_past, after_earlier, Found, has, none, found_day}
+use Rattle.calendar.proofs.Dates.{day_some, number_of, counted, number_some, day_number, date_day}
 
-forth : (day : ℕ) → (dateOf day ≡ noDate → ⊥) → dayOf (dateOf day) ≡ day
-unfolding dateOf
+forth : (day : ℕ) → (date_of day ≡ no_date → ⊥) → day_of (date_of day) ≡ day
+unfolding date_of
 forth zero h = absurd (h refl)
-forth (suc n) h = by-test (ltb n lastDay) refl
+forth (suc n) h = by_test (ltb n last_day) refl
   where
-    by-test : (b : Bool) → ltb n lastDay ≡ b → dayOf (dateOf (suc n)) ≡ suc n
-    by-test true e = day-some (dateOf (suc n)) n (ltb-true n lastDay e) refl
-    by-test false e = absurd (h (date-past n (ltb-false n lastDay e)))
+    by_test : (b : Bool) → ltb n last_day ≡ b → day_of (date_of (suc n)) ≡ suc n
+    by_test true e = day_some (date_of (suc n)) n (ltb-true n last_day e) refl
+    by_test false e = absurd (h (date_past n (ltb-false n last_day e)))
 
-back : (d : Date) → (dayOf d ≡ 0 → ⊥) → dateOf (dayOf d) ≡ d
-back d h = of-found (dayOf d) refl (found-day d)
+back : (d : Date) → (day_of d ≡ 0 → ⊥) → date_of (day_of d) ≡ d
+back d h = of_found (day_of d) refl (found_day d)
   where
-    of-found : (day : ℕ) → dayOf d ≡ day → Found lastDay d day → dateOf day ≡ d
-    of-found day e (has j l f) = f
-    of-found day e (none _) = absurd (h e)
+    of_found : (day : ℕ) → day_of d ≡ day → Found last_day d day → date_of day ≡ d
+    of_found day e (has j l f) = f
+    of_found day e (none _) = absurd (h e)
 
-inside : (day : ℕ) → 1 ≤ day → day ≤ lastDay → isInCalendar (dateOf day) ≡ true
-inside day h l = rw date-day (true-calendar (after-in (day - 1)))
+inside : (day : ℕ) → 1 ≤ day → day ≤ last_day → is_in_calendar (date_of day) ≡ true
+inside day h l = rw date_day (true_calendar (after_in (day - 1)))
 
-rise : (earlier later : ℕ) → 1 ≤ earlier → earlier < later → later ≤ lastDay → Earlier (dateOf earlier) (dateOf later)
+rise : (earlier later : ℕ) → 1 ≤ earlier → earlier < later → later ≤ last_day → Earlier (date_of earlier) (date_of later)
 rise earlier later h l m =
-    rw (date-day earlier h (omega arith), date-day later (omega arith) m) (after-earlier (earlier - 1) (later - 1) (omega arith))
+    rw (date_day earlier h (omega arith), date_day later (omega arith) m) (after_earlier (earlier - 1) (later - 1) (omega arith))
 
-last-in : isInCalendar lastDate ≡ true
-unfolding isInCalendar monthLength lengthIn hasThirty
-last-in = refl
+last_in : is_in_calendar last_date ≡ true
+unfolding is_in_calendar month_length length_in has_thirty
+last_in = refl
 
-last-number : lastDay ≡ number_of lastDate
-unfolding yearStart yearLength isLeap daysBefore lengthIn hasThirty
-last-number = refl
+last_number : last_day ≡ number_of last_date
+unfolding year_start year_length is_leap days_before length_in has_thirty
+last_number = refl
 
-last-counted : after (lastDay - 1) firstDate ≡ lastDate
-last-counted = counted lastDate (calendar-true lastDate last-in) (omega arith) (lastDay - 1) last-number
+last_counted : after (last_day - 1) first_date ≡ last_date
+last_counted = counted last_date (calendar_true last_date last_in) (omega arith) (last_day - 1) last_number
 
-first : dateOf 1 ≡ firstDate
-unfolding dateOf after
+first : date_of 1 ≡ first_date
+unfolding date_of after
 first = refl
 
-whole : (d : Date) → isInCalendar d ≡ true → (Earlier d firstDate → ⊥) → (Earlier lastDate d → ⊥) → 1 ≤ dayOf d
-whole d h f l = by_tests (ltb d.year firstYear) refl (ltb lastDay (number_of d)) refl
+whole : (d : Date) → is_in_calendar d ≡ true → (Earlier d first_date → ⊥) → (Earlier last_date d → ⊥) → 1 ≤ day_of d
+whole d h f l = by_tests (ltb d.year first_year) refl (ltb last_day (number_of d)) refl
   where
-    late : firstYear ≤ d.year → lastDay < number_of d → Earlier lastDate d
+    late : first_year ≤ d.year → last_day < number_of d → Earlier last_date d
     late y n =
-        subst (Earlier lastDate) (counted d (calendar-true d h) y (number_of d - 1) (number-some d (calendar-true d h) y))
-        (subst (λ (x : Date). Earlier x (after (number_of d - 1) firstDate)) last-counted (after-earlier (lastDay - 1) (number_of d - 1) (omega arith)))
+        subst (Earlier last_date) (counted d (calendar_true d h) y (number_of d - 1) (number_some d (calendar_true d h) y))
+        (subst (λ (x : Date). Earlier x (after (number_of d - 1) first_date)) last_counted (after_earlier (last_day - 1) (number_of d - 1) (omega arith)))
 
-    by_tests : (x : Bool) → ltb d.year firstYear ≡ x → (y : Bool) → ltb lastDay (number_of d) ≡ y → 1 ≤ dayOf d
-    by_tests true p y q = absurd (f (byYear (ltb-true d.year firstYear p)))
-    by_tests false p true q = absurd (l (late (ltb-false d.year firstYear p) (ltb-true lastDay (number_of d) q)))
+    by_tests : (x : Bool) → ltb d.year first_year ≡ x → (y : Bool) → ltb last_day (number_of d) ≡ y → 1 ≤ day_of d
+    by_tests true p y q = absurd (f (by_year (ltb-true d.year first_year p)))
+    by_tests false p true q = absurd (l (late (ltb-false d.year first_year p) (ltb-true last_day (number_of d) q)))
     by_tests false p false q =
-        let y = ltb-false d.year firstYear p in
-        omega (arith, day-number d (calendar-true d h) y (ltb-false lastDay (number_of d) q), (start-bounds (d.year - firstYear)).0)
+        let y = ltb-false d.year first_year p in
+        omega (arith, day_number d (calendar_true d h) y (ltb-false last_day (number_of d) q), (start_bounds (d.year - first_year)).0)
 
-starts : (k : ℕ) → k < yearsHeld → dateOf (yearStart k) ≡ date (firstYear + k) 1 1
+starts : (k : ℕ) → k < years_held → date_of (year_start k) ≡ date (first_year + k) 1 1
 starts k h =
-    let b = start-bounds k in
-    date-day (yearStart k) (omega arith) (omega arith) ∙ to-year k (yearStart k - 1) (omega arith)
+    let b = start_bounds k in
+    date_day (year_start k) (omega arith) (omega arith) ∙ to_year k (year_start k - 1) (omega arith)
 
-named : (yearStart 0 ≡ 1) × ((yearStart 1 ≡ 367) × ((yearStart 100 ≡ 36526) × (yearStart 101 ≡ 36891)))
-unfolding yearStart yearLength isLeap
+named : (year_start 0 ≡ 1) × ((year_start 1 ≡ 367) × ((year_start 100 ≡ 36526) × (year_start 101 ≡ 36891)))
+unfolding year_start year_length is_leap
 named = (refl, (refl, (refl, refl)))
 
 pub calendar : CalendarHolds
@@ -87,7 +87,7 @@ calendar =
       inside = inside;
       rise = rise;
       first = first;
-      last = date-day lastDay (omega arith) (omega arith) ∙ last-counted;
+      last = date_day last_day (omega arith) (omega arith) ∙ last_counted;
       whole = whole;
       starts = starts;
       named = named;

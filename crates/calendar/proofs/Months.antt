@@ -6,88 +6,88 @@ use native.Mathlib.Nat.{zero-add}
 use native.Mathlib.Omega.{arith}
 use borrow.Author.Tests.{ltb-true, ltb-false}
 use lib.Dec.{eqb, ltb}
-use Rattle.calendar.specs.Year.{isLeap, yearLength}
-use Rattle.calendar.specs.Month.{hasThirty, lengthIn, monthsInYear}
-use Rattle.calendar.specs.Inner.Placed.{daysBefore, MonthAt, lackingIn, evenDay, start_by, monthBy}
-use Rattle.calendar.proofs.Spans.{gives, finds, given, Ends, found, placed, quotient-rises}
+use Rattle.calendar.specs.Year.{is_leap, year_length}
+use Rattle.calendar.specs.Month.{has_thirty, length_in, months_in_year}
+use Rattle.calendar.specs.Inner.Placed.{days_before, MonthAt, lacking_in, even_day, start_by, month_by}
+use Rattle.calendar.proofs.Spans.{gives, finds, given, Ends, found, placed, quotient_rises}
 
 module _ (leap : Bool) where
-  abbrev pub length-of : ℕ → ℕ
-  length-of m = lengthIn leap (suc m)
+  abbrev pub length_of : ℕ → ℕ
+  length_of m = length_in leap (suc m)
 
-  pub days-more : (m : ℕ) → daysBefore leap (suc m) ≡ daysBefore leap m + length-of m
-  unfolding daysBefore
-  days-more m = refl
+  pub days_more : (m : ℕ) → days_before leap (suc m) ≡ days_before leap m + length_of m
+  unfolding days_before
+  days_more m = refl
 
-  first : 0 ≡ daysBefore leap 0
-  unfolding daysBefore
+  first : 0 ≡ days_before leap 0
+  unfolding days_before
   first = refl
 
 -- ---- the divisions are right for each of the twelve months
-starts-right : (leap : Bool) → gives (start_by leap) (length-of leap) 0 0 monthsInYear ≡ true
-unfolding gives lackingIn lengthIn hasThirty
-starts-right true = refl
-starts-right false = refl
+starts_right : (leap : Bool) → gives (start_by leap) (length_of leap) 0 0 months_in_year ≡ true
+unfolding gives lacking_in length_in has_thirty
+starts_right true = refl
+starts_right false = refl
 
-months-right : (leap : Bool) → finds (monthBy leap) (length-of leap) 0 0 monthsInYear ≡ true
-unfolding finds evenDay lackingIn lengthIn hasThirty
-months-right true = refl
-months-right false = refl
+months_right : (leap : Bool) → finds (month_by leap) (length_of leap) 0 0 months_in_year ≡ true
+unfolding finds even_day lacking_in length_in has_thirty
+months_right true = refl
+months_right false = refl
 
 -- ---- bounds
-pub lacking-bounds : (leap : Bool) → (1 ≤ lackingIn leap) × (lackingIn leap ≤ 2)
-unfolding lackingIn
-lacking-bounds true = (omega arith, omega arith)
-lacking-bounds false = (omega arith, omega arith)
+pub lacking_bounds : (leap : Bool) → (1 ≤ lacking_in leap) × (lacking_in leap ≤ 2)
+unfolding lacking_in
+lacking_bounds true = (omega arith, omega arith)
+lacking_bounds false = (omega arith, omega arith)
 
-pub even-most : (leap : Bool) (day : ℕ) → evenDay leap day ≤ day + 2
-unfolding evenDay
-even-most leap day = by-test (ltb (day + lackingIn leap) 61)
+pub even_most : (leap : Bool) (day : ℕ) → even_day leap day ≤ day + 2
+unfolding even_day
+even_most leap day = by_test (ltb (day + lacking_in leap) 61)
   where
-    by-test : (b : Bool) → cond b day (day + lackingIn leap) ≤ day + 2
-    by-test true = omega arith
-    by-test false = omega (arith, (lacking-bounds leap).1)
+    by_test : (b : Bool) → cond b day (day + lacking_in leap) ≤ day + 2
+    by_test true = omega arith
+    by_test false = omega (arith, (lacking_bounds leap).1)
 
-pub year-most : (leap : Bool) → daysBefore leap monthsInYear ≤ 366
-unfolding daysBefore lengthIn hasThirty
-year-most true = omega arith
-year-most false = omega arith
+pub year_most : (leap : Bool) → days_before leap months_in_year ≤ 366
+unfolding days_before length_in has_thirty
+year_most true = omega arith
+year_most false = omega arith
 
 module _ (leap : Bool) where
-  pub days-before-at : (m : ℕ) → m < monthsInYear → start_by leap m ≡ daysBefore leap m
-  days-before-at m h =
-      rw zero-add at (given (daysBefore leap) (length-of leap) (days-more leap) (start_by leap) monthsInYear 0 0 (first leap) (starts-right leap) m h)
+  pub days_before_at : (m : ℕ) → m < months_in_year → start_by leap m ≡ days_before leap m
+  days_before_at m h =
+      rw zero-add at (given (days_before leap) (length_of leap) (days_more leap) (start_by leap) months_in_year 0 0 (first leap) (starts_right leap) m h)
 
-  even-rises : (a b : ℕ) → a ≤ b → evenDay leap a ≤ evenDay leap b
-  unfolding evenDay
-  even-rises a b h = by_tests (ltb (a + lackingIn leap) 61) refl (ltb (b + lackingIn leap) 61) refl
+  even_rises : (a b : ℕ) → a ≤ b → even_day leap a ≤ even_day leap b
+  unfolding even_day
+  even_rises a b h = by_tests (ltb (a + lacking_in leap) 61) refl (ltb (b + lacking_in leap) 61) refl
     where
-      by_tests : (x : Bool) → ltb (a + lackingIn leap) 61 ≡ x → (y : Bool) → ltb (b + lackingIn leap) 61 ≡ y → cond x a (a + lackingIn leap) ≤ cond y b (b + lackingIn leap)
+      by_tests : (x : Bool) → ltb (a + lacking_in leap) 61 ≡ x → (y : Bool) → ltb (b + lacking_in leap) 61 ≡ y → cond x a (a + lacking_in leap) ≤ cond y b (b + lacking_in leap)
       by_tests true e true f = h
       by_tests true e false f = omega arith
-      by_tests false e true f = omega (arith, ltb-false (a + lackingIn leap) 61 e, ltb-true (b + lackingIn leap) 61 f)
+      by_tests false e true f = omega (arith, ltb-false (a + lacking_in leap) 61 e, ltb-true (b + lacking_in leap) 61 f)
       by_tests false e false f = omega arith
 
-  month-rises : (a b : ℕ) → a ≤ b → monthBy leap a ≤ monthBy leap b
-  month-rises a b h = quotient-rises 367 _ _ (omega arith) (omega (arith, even-rises a b h))
+  month_rises : (a b : ℕ) → a ≤ b → month_by leap a ≤ month_by leap b
+  month_rises a b h = quotient_rises 367 _ _ (omega arith) (omega (arith, even_rises a b h))
 
-  ends_at : (m : ℕ) → m < monthsInYear → Ends (daysBefore leap) (length-of leap) (days-more leap) (monthBy leap) m
+  ends_at : (m : ℕ) → m < months_in_year → Ends (days_before leap) (length_of leap) (days_more leap) (month_by leap) m
   ends_at m h =
-      rw zero-add at (found (daysBefore leap) (length-of leap) (days-more leap) (monthBy leap) monthsInYear 0 0 (first leap) (months-right leap) m h)
+      rw zero-add at (found (days_before leap) (length_of leap) (days_more leap) (month_by leap) months_in_year 0 0 (first leap) (months_right leap) m h)
 
-  pub month-placed : (day : ℕ) → day < daysBefore leap monthsInYear → MonthAt leap day (monthBy leap day)
-  month-placed day h =
-      placed (daysBefore leap) (length-of leap) (days-more leap) (monthBy leap) month-rises monthsInYear ends_at day (omega (arith, first leap)) h
+  pub month_placed : (day : ℕ) → day < days_before leap months_in_year → MonthAt leap day (month_by leap day)
+  month_placed day h =
+      placed (days_before leap) (length_of leap) (days_more leap) (month_by leap) month_rises months_in_year ends_at day (omega (arith, first leap)) h
 
 -- ---- the twelve months are the year
-year-days-in : (leap : Bool) → daysBefore leap monthsInYear ≡ cond leap 366 365
-unfolding daysBefore lengthIn hasThirty
-year-days-in true = refl
-year-days-in false = refl
+year_days_in : (leap : Bool) → days_before leap months_in_year ≡ cond leap 366 365
+unfolding days_before length_in has_thirty
+year_days_in true = refl
+year_days_in false = refl
 
-pub year-days : (year : ℕ) → daysBefore (isLeap year) monthsInYear ≡ yearLength year
-unfolding yearLength
-year-days year = year-days-in (isLeap year)
+pub year_days : (year : ℕ) → days_before (is_leap year) months_in_year ≡ year_length year
+unfolding year_length
+year_days year = year_days_in (is_leap year)
 
 -- ---- a month has from 28 to 31 days
 february : (leap : Bool) → (28 ≤ cond leap 29 28) × (cond leap 29 28 ≤ 31)
@@ -98,10 +98,10 @@ other : (b : Bool) → (28 ≤ cond b 30 31) × (cond b 30 31 ≤ 31)
 other true = (omega arith, omega arith)
 other false = (omega arith, omega arith)
 
-pub length-bounds : (leap : Bool) (month : ℕ) → (28 ≤ lengthIn leap month) × (lengthIn leap month ≤ 31)
-unfolding lengthIn
-length-bounds leap month = by-test (eqb month 2)
+pub length_bounds : (leap : Bool) (month : ℕ) → (28 ≤ length_in leap month) × (length_in leap month ≤ 31)
+unfolding length_in
+length_bounds leap month = by_test (eqb month 2)
   where
-    by-test : (b : Bool) → (28 ≤ cond b (cond leap 29 28) (cond (hasThirty month) 30 31)) × (cond b (cond leap 29 28) (cond (hasThirty month) 30 31) ≤ 31)
-    by-test true = february leap
-    by-test false = other (hasThirty month)
+    by_test : (b : Bool) → (28 ≤ cond b (cond leap 29 28) (cond (has_thirty month) 30 31)) × (cond b (cond leap 29 28) (cond (has_thirty month) 30 31) ≤ 31)
+    by_test true = february leap
+    by_test false = other (has_thirty month)

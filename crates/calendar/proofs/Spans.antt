@@ -59,26 +59,26 @@ module _ (start length : ℕ → ℕ) (more : (k : ℕ) → start (suc k) ≡ st
         let s = ap start e in
         omega (arith, rises day (start (suc n) - 1) (omega arith), (each n (omega arith)).last)
 
-    not-before : (k : ℕ) → k < count → f day ≡ k → day < start k → ⊥
-    not-before zero h e l = omega arith
-    not-before (suc k) h e l = omega (arith, rises day (start (suc k) - 1) (omega arith), (each k (omega arith)).last)
+    not_before : (k : ℕ) → k < count → f day ≡ k → day < start k → ⊥
+    not_before zero h e l = omega arith
+    not_before (suc k) h e l = omega (arith, rises day (start (suc k) - 1) (omega arith), (each k (omega arith)).last)
 
     not_after : (k : ℕ) → k < count → f day ≡ k → start (suc k) ≤ day → ⊥
-    not_after k h e l = by-test (ltb (suc k) count) refl
+    not_after k h e l = by_test (ltb (suc k) count) refl
       where
-        by-test : (b : Bool) → ltb (suc k) count ≡ b → ⊥
-        by-test true t = omega (arith, rises (start (suc k)) day l, (each (suc k) (ltb-true (suc k) count t)).first)
-        by-test false t = let s : suc k ≡ count = omega (arith, ltb-false (suc k) count t) in omega (arith, ap start s)
+        by_test : (b : Bool) → ltb (suc k) count ≡ b → ⊥
+        by_test true t = omega (arith, rises (start (suc k)) day l, (each (suc k) (ltb-true (suc k) count t)).first)
+        by_test false t = let s : suc k ≡ count = omega (arith, ltb-false (suc k) count t) in omega (arith, ap start s)
 
     pub placed : Placed start count day (f day)
     placed =
         let h = held_in count refl in
         record {
           held = h;
-          from = le_of_suc-le-suc (lt_of_not-le (not-before (f day) h refl));
+          from = le_of_suc-le-suc (lt_of_not-le (not_before (f day) h refl));
           to = lt_of_not-le (not_after (f day) h refl);
         }
 
 -- a quotient rises
-pub quotient-rises : (k a b : ℕ) → 0 < k → a ≤ b → a / k ≤ b / k
-quotient-rises k a b h l = (le-div_iff_mul-le {x = a / k} h).1 (omega (arith, div-mul-le_self a k))
+pub quotient_rises : (k a b : ℕ) → 0 < k → a ≤ b → a / k ≤ b / k
+quotient_rises k a b h l = (le-div_iff_mul-le {x = a / k} h).1 (omega (arith, div-mul-le_self a k))

@@ -1,6 +1,6 @@
 // From a day number to its date, and back.
 ghost use Rattle.std.specs.Prelude.{◌≡◌};
-ghost use Rattle.calendar.specs.Date.{isInCalendar, dateOf, dayOf};
+ghost use Rattle.calendar.specs.Date.{is_in_calendar, date_of, day_of};
 
 use crate::date::Date;
 use crate::month::{MONTHS, days_before, month_at, month_length};
@@ -12,7 +12,7 @@ const LAST_DAY: u32 = 65535;
 
 // The date of a day, and zeros for day 0.
 pub fn date_of(day: u16) -> Date
-    ensures { result ≡ dateOf day }
+    ensures { result ≡ date_of day }
 {
     if day == 0 {
         return Date {
@@ -37,7 +37,7 @@ pub fn date_of(day: u16) -> Date
 
 // There are such a month and such a day in it.
 fn is_in_calendar(date: Date) -> bool
-    ensures { result ≡ isInCalendar date }
+    ensures { result ≡ is_in_calendar date }
 {
     let month = date.month;
     let day = date.day;
@@ -47,7 +47,7 @@ fn is_in_calendar(date: Date) -> bool
 
 // The day of a date; 0 for a date that is not in the calendar or has no day number, as those after 5 June 2179, whose number two bytes do not hold.
 pub fn day_of(date: Date) -> u16
-    ensures { result ≡ dayOf date }
+    ensures { result ≡ day_of date }
 {
     if !is_in_calendar(date) {
         return 0;

@@ -1,8 +1,8 @@
 // Months: how long they are, and where in the year they begin. If February had thirty days, a year would have 367, and its months would be so even
 // that a month begins at its twelfth part of them, rounded to the nearest day, and a half down, since July begins on day 183 and not on 184.
 ghost use Rattle.std.specs.Prelude.{◌≡◌, ◌<◌};
-ghost use Rattle.calendar.specs.Month.{lengthIn, monthsInYear};
-ghost use Rattle.calendar.specs.Inner.Placed.{daysBefore, MonthAt, lackingIn, evenDay};
+ghost use Rattle.calendar.specs.Month.{length_in, months_in_year};
+ghost use Rattle.calendar.specs.Inner.Placed.{days_before, MonthAt, lacking_in, even_day};
 
 pub(crate) const MONTHS: u16 = 12;
 
@@ -13,7 +13,7 @@ const EVEN_YEAR: u16 = 367;
 const EVEN_MARCH: u16 = 61;
 
 pub(crate) fn month_length(leap: bool, month: u8) -> u8
-    ensures { result ≡ lengthIn leap month }
+    ensures { result ≡ length_in leap month }
 {
     if month == 2 {
         if leap {
@@ -29,7 +29,7 @@ pub(crate) fn month_length(leap: bool, month: u8) -> u8
 
 // The days that February lacks to thirty.
 fn lacking(leap: bool) -> u16
-    ensures { result ≡ lackingIn leap }
+    ensures { result ≡ lacking_in leap }
 {
     if leap {
         return 1;
@@ -40,7 +40,7 @@ fn lacking(leap: bool) -> u16
 // A day of the year, of which there are at most 366, counted as if February had thirty.
 fn even_day(leap: bool, day: u16) -> u16
     requires { day < 366 }
-    ensures { result ≡ evenDay leap day }
+    ensures { result ≡ even_day leap day }
 {
     let later = day + lacking(leap);
     if later < EVEN_MARCH {
@@ -51,8 +51,8 @@ fn even_day(leap: bool, day: u16) -> u16
 
 // The days of the year before a month, the month counted from 0. The days that February lacks are missed from March on.
 pub(crate) fn days_before(leap: bool, month: u16) -> u16
-    requires { month < monthsInYear }
-    ensures { result ≡ daysBefore leap month }
+    requires { month < months_in_year }
+    ensures { result ≡ days_before leap month }
 {
     let even = (EVEN_YEAR * month + 5) / MONTHS;
     if month < 2 {
@@ -63,7 +63,7 @@ pub(crate) fn days_before(leap: bool, month: u16) -> u16
 
 // The month that a day of the year falls in, both counted from 0. 12 × day + 6 reaches 367 × month just where the day reaches the month's start.
 pub(crate) fn month_at(leap: bool, day: u16) -> u16
-    requires { day < daysBefore leap monthsInYear }
+    requires { day < days_before leap months_in_year }
     ensures { MonthAt leap day result }
 {
     (MONTHS * even_day(leap, day) + 6) / EVEN_YEAR

@@ -1,6 +1,6 @@
 // The table of the day numbers on which the years 2000 to 2179 begin.
 ghost use Rattle.std.specs.Prelude.{◌≡◌, ◌<◌};
-ghost use Rattle.calendar.specs.Year.{yearStart, yearsHeld};
+ghost use Rattle.calendar.specs.Year.{year_start, years_held};
 
 pub(crate) const FIRST_YEAR: u16 = 2000;
 
@@ -25,8 +25,8 @@ const YEAR_STARTS: [u16; 180] = [
 
 // The day on which a year of the table begins, the year counted from 2000.
 pub(crate) fn year_start(years: u16) -> u16
-    requires { years < yearsHeld }
-    ensures { result ≡ yearStart years }
+    requires { years < years_held }
+    ensures { result ≡ year_start years }
 {
     YEAR_STARTS[years as usize]
 }

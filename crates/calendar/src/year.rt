@@ -1,8 +1,8 @@
 // Years: which are leap years, and which year a day falls in.
 ghost use Rattle.std.specs.Prelude.{◌≡◌, ◌≤◌};
-ghost use Rattle.calendar.specs.Year.{isLeap, yearLength};
-ghost use Rattle.calendar.specs.Date.{dateOf};
-ghost use Rattle.calendar.specs.Inner.Placed.{YearAt, evenDays};
+ghost use Rattle.calendar.specs.Year.{is_leap, year_length};
+ghost use Rattle.calendar.specs.Date.{date_of};
+ghost use Rattle.calendar.specs.Inner.Placed.{YearAt, even_days};
 
 use crate::starts::FIRST_YEAR;
 
@@ -14,13 +14,13 @@ const START_OF_2101: u16 = 36891;
 
 // A leap year divides by 4, and not by 100 unless by 400.
 pub fn is_leap(year: u16) -> bool
-    ensures { result ≡ isLeap year }
+    ensures { result ≡ is_leap year }
 {
     (year % 4 == 0) & (!(year % 100 == 0) | (year % 400 == 0))
 }
 
 pub fn year_length(year: u16) -> u16
-    ensures { result ≡ yearLength year }
+    ensures { result ≡ year_length year }
 {
     if is_leap(year) {
         return 366;
@@ -32,7 +32,7 @@ pub fn year_length(year: u16) -> u16
 // the others.
 fn even_days(day: u16) -> u16
     requires { 1 ≤ day }
-    ensures { result ≡ evenDays day }
+    ensures { result ≡ even_days day }
 {
     if day < START_OF_2101 {
         return day - 1;
@@ -51,7 +51,7 @@ pub(crate) fn year_at(day: u16) -> u16
 
 // The year of a day's date, and 0 for day 0.
 pub fn year_of(day: u16) -> u16
-    ensures { result ≡ (dateOf day).year }
+    ensures { result ≡ (date_of day).year }
 {
     if day == 0 {
         return 0;

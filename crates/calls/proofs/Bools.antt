@@ -10,8 +10,8 @@ both x y = (and-eq-true_iff x y).0
 pub together : {x y : Bool} → x ≡ true → y ≡ true → x && y ≡ true
 together p q = rw (p, q)
 
-pub or-false : {x y : Bool} → x ≡ false → y ≡ false → x || y ≡ false
-or-false p q = rw (p, q)
+pub or_false : {x y : Bool} → x ≡ false → y ≡ false → x || y ≡ false
+or_false p q = rw (p, q)
 
 pub left_or : {x : Bool} (y : Bool) → x ≡ true → x || y ≡ true
 left_or y h = rw h
@@ -23,10 +23,10 @@ right_or false h = h
 pub apart : {x : Bool} → x ≡ true → x ≡ false → ⊥
 apart p q = let z : ◌≡◌ {A = ℕ} 0 1 = cc in omega arith
 
-pub by-test {ℓ} : {X : Type ℓ} (b : Bool) → (b ≡ true → X) → (b ≡ false → X) → X
-by-test true f g = f refl
-by-test false f g = g refl
+pub by_test {ℓ} : {X : Type ℓ} (b : Bool) → (b ≡ true → X) → (b ≡ false → X) → X
+by_test true f g = f refl
+by_test false f g = g refl
 
-pub either-of {ℓ} : {X : Type ℓ} (x y : Bool) → x || y ≡ true → (x ≡ true → X) → (y ≡ true → X) → X
-either-of true y h f g = f refl
-either-of false y h f g = g h
+pub either_of {ℓ} : {X : Type ℓ} (x y : Bool) → x || y ≡ true → (x ≡ true → X) → (y ≡ true → X) → X
+either_of true y h f g = f refl
+either_of false y h f g = g h

@@ -7,51 +7,51 @@ use native.Mathlib.Omega.{arith}
 use lib.Dec.{eqb}
 use lib.ListN.{length, drop}
 use Rattle.register.specs.declared.head.Head.{Head}
-use Rattle.register.specs.Area.{area_bytes, allZero}
-use Rattle.register.specs.Entries.{entryStart}
-use Rattle.register.specs.Head.{meterBytes, isCarryAt, no_carry, head_of, headBytes, mostEntries, body_of, putHead}
-use Rattle.register.proofs.Heads.{Bare, head-length, head-kind, head-same}
-use Rattle.register.proofs.Body.{area-fits, head-body}
-use Rattle.journal.specs.Journal.{entriesTo, journalOf}
-use Rattle.terms.specs.Entry.{kindCarry, those}
-use Rattle.journal.specs.Sound.{every, daysRise, opensRight, hasOneFinal, isHeldRight, areApart, areInOrder, areSound, isPlate, isSound}
-use Rattle.calls.proofs.Zeros.{zero-at, zero-drop}
-use Rattle.calls.proofs.Carried.{uncarried-right}
-use Rattle.calls.proofs.Shape.{entries-are, sound-from, good-head}
+use Rattle.register.specs.Area.{area_bytes, all_zero}
+use Rattle.register.specs.Entries.{entry_start}
+use Rattle.register.specs.Head.{meter_bytes, is_carry_at, no_carry, head_of, head_bytes, most_entries, body_of, put_head}
+use Rattle.register.proofs.Heads.{Bare, head_length, head_kind, head_same}
+use Rattle.register.proofs.Body.{area_fits, head_body}
+use Rattle.journal.specs.Journal.{entries_to, journal_of}
+use Rattle.terms.specs.Entry.{kind_carry, those}
+use Rattle.journal.specs.Sound.{every, days_rise, opens_right, has_one_final, is_held_right, are_apart, are_in_order, are_sound, is_plate, is_sound}
+use Rattle.calls.proofs.Zeros.{zero_at, zero_drop}
+use Rattle.calls.proofs.Carried.{uncarried_right}
+use Rattle.calls.proofs.Shape.{entries_are, sound_from, good_head}
 
 pub record Enrolled (head : Head) (after : List ℕ) : Type 0 where
   pub size : length after ≡ area_bytes
-  pub sound : isSound after ≡ true
-  pub journal : journalOf after ≡ record { head = head; entries = [] }
+  pub sound : is_sound after ≡ true
+  pub journal : journal_of after ≡ record { head = head; entries = [] }
 
-module _ (head : Head) (a : List ℕ) (size : length a ≡ area_bytes) (empty : allZero a ≡ true) (plate : isPlate head ≡ true) (bare : head.carried ≡ false) (none : head.carry ≡ no_carry) where
+module _ (head : Head) (a : List ℕ) (size : length a ≡ area_bytes) (empty : all_zero a ≡ true) (plate : is_plate head ≡ true) (bare : head.carried ≡ false) (none : head.carry ≡ no_carry) where
   abbrev after : List ℕ
-  after = putHead a head
+  after = put_head a head
 
-  fits : headBytes head ≤ length a
-  fits = area-fits a head size
+  fits : head_bytes head ≤ length a
+  fits = area_fits a head size
 
   clear : Bare a head
-  unfolding isCarryAt
-  clear _ = (none, ap (λ (k : ℕ). eqb k kindCarry) (zero-at a meterBytes empty))
+  unfolding is_carry_at
+  clear _ = (none, ap (λ (k : ℕ). eqb k kind_carry) (zero_at a meter_bytes empty))
 
   same : head_of after ≡ head
-  same = head-same a head fits clear
+  same = head_same a head fits clear
 
-  few : 0 ≤ mostEntries (head_of after)
+  few : 0 ≤ most_entries (head_of after)
   few = omega arith
 
-  end : allZero (drop (entryStart 0) (body_of after)) ≡ true
-  end = rw (head-body a head fits clear) (zero-drop (entryStart 0) (drop (headBytes head) a) (zero-drop (headBytes head) a empty))
+  end : all_zero (drop (entry_start 0) (body_of after)) ≡ true
+  end = rw (head_body a head fits clear) (zero_drop (entry_start 0) (drop (head_bytes head) a) (zero_drop (head_bytes head) a empty))
 
-  no-entries : (journalOf after).entries ≡ []
-  unfolding entriesTo every
-  no-entries = entries-are after 0 few end refl
+  no_entries : (journal_of after).entries ≡ []
+  unfolding entries_to every
+  no_entries = entries_are after 0 few end refl
 
   pub enrolled : Enrolled head after
-  unfolding entriesTo every journalOf areSound areInOrder those daysRise opensRight hasOneFinal isHeldRight areApart
+  unfolding entries_to every journal_of are_sound are_in_order those days_rise opens_right has_one_final is_held_right are_apart
   enrolled = record {
-    size = head-length a head ∙ size;
-    sound = sound-from after 0 few end (good-head after head same (head-kind a head fits) plate) (uncarried-right (head_of after) [] (rw same bare));
-    journal = λ t. record { head = same t; entries = no-entries t };
+    size = head_length a head ∙ size;
+    sound = sound_from after 0 few end (good_head after head same (head_kind a head fits) plate) (uncarried_right (head_of after) [] (rw same bare));
+    journal = λ t. record { head = same t; entries = no_entries t };
   }

@@ -10,17 +10,17 @@ use borrow.Author.Tests.{eqb-true, eqb-false}
 use lib.Dec.{eqb}
 use lib.IntN.{ℤ, pos, neg_ℤ, ◌+ℤ◌, ◌-ℤ◌, ◌*ℤ◌, +ℤ_assoc, +ℤ_comm, +ℤ_idl, +ℤ_invr, pos-+ℤ-pos}
 use lib.ListN.{length}
-use Rattle.arithmetic.specs.Powers.{tenTo}
-use Rattle.arithmetic.specs.Advance.{advanceOf}
+use Rattle.arithmetic.specs.Powers.{ten_to}
+use Rattle.arithmetic.specs.Advance.{advance_of}
 use Rattle.arithmetic.proofs.Laws.{in_table}
 use Rattle.terms.specs.declared.entry.Entry.{Entry}
-use Rattle.terms.specs.Entry.{keepIf, those}
-use Rattle.journal.specs.Journal.{Journal, standing, isFlagged, firstValue}
+use Rattle.terms.specs.Entry.{keep_if, those}
+use Rattle.journal.specs.Journal.{Journal, standing, is_flagged, first_value}
 use Rattle.register.specs.declared.head.Head.{Head}
 use Rattle.register.specs.Head.{no_carry}
-use Rattle.calls.specs.Fold.{carryAfter, headAfter}
-use Rattle.journal.specs.Total.{flaggedOf, standingIn, flaggedIn, firstIn, total_of}
-use Rattle.calls.specs.Ledger.{Named, named, firstValueOf, lastLessFirst}
+use Rattle.calls.specs.Fold.{carry_after, head_after}
+use Rattle.journal.specs.Total.{flagged_of, standing_in, flagged_in, first_in, total_of}
+use Rattle.calls.specs.Ledger.{Named, named, first_value_of, last_less_first}
 
 -- a flag is 0 or 1
 abbrev pub IsFlag : ℕ → Type 0
@@ -45,78 +45,78 @@ joined e s f a b =
     ∙ ap (λ (z : ℤ). z +ℤ (a +ℤ b)) (+ℤ_comm (neg_ℤ f) e)
 
 -- ---- the flagged reads
-flagged-if : (b : Bool) (e : Entry) (ss : List Entry) (f : ℕ) → eqb f 1 ≡ b → IsFlag f → length (keepIf b e ss) ≡ length ss + f
-flagged-if true e ss f h flag = let one : f ≡ 1 = eqb-true f 1 h in omega arith
-flagged-if false e ss f h flag = ⊎_elim (λ zero. omega arith) (λ one. absurd (eqb-false f 1 h one)) flag
+flagged_if : (b : Bool) (e : Entry) (ss : List Entry) (f : ℕ) → eqb f 1 ≡ b → IsFlag f → length (keep_if b e ss) ≡ length ss + f
+flagged_if true e ss f h flag = let one : f ≡ 1 = eqb-true f 1 h in omega arith
+flagged_if false e ss f h flag = ⊎_elim (λ zero. omega arith) (λ one. absurd (eqb-false f 1 h one)) flag
 
-pub flagged-more : (e : Entry) (ss : List Entry) → IsFlag e.flag → flaggedOf (e ∷ ss) ≡ flaggedOf ss + e.flag
-unfolding flaggedOf those isFlagged
-flagged-more e ss flag = flagged-if (eqb e.flag 1) e (those isFlagged ss) e.flag refl flag
+pub flagged_more : (e : Entry) (ss : List Entry) → IsFlag e.flag → flagged_of (e ∷ ss) ≡ flagged_of ss + e.flag
+unfolding flagged_of those is_flagged
+flagged_more e ss flag = flagged_if (eqb e.flag 1) e (those is_flagged ss) e.flag refl flag
 
 -- ---- the total
 abbrev turned : ℕ → ℤ → ℕ → ℤ
-turned n apart flags = apart +ℤ pos (flags * tenTo n)
+turned n apart flags = apart +ℤ pos (flags * ten_to n)
 
-pub flagged-in : (head : Head) (e : Entry) (ss : List Entry) → IsFlag e.flag → flaggedIn head (e ∷ ss) ≡ flaggedIn head ss + e.flag
-unfolding flaggedIn
-flagged-in head e ss flag = rw (flagged-more e ss flag) (sym (add_assoc head.carry.flagged (flaggedOf ss) e.flag))
+pub flagged_in_lem : (head : Head) (e : Entry) (ss : List Entry) → IsFlag e.flag → flagged_in head (e ∷ ss) ≡ flagged_in head ss + e.flag
+unfolding flagged_in
+flagged_in_lem head e ss flag = rw (flagged_more e ss flag) (sym (add_assoc head.carry.flagged (flagged_of ss) e.flag))
 
 -- the first value stays with a read more
-pub first_more : (head : Head) (e s : Entry) (ss : List Entry) → firstIn head (e ∷ s ∷ ss) ≡ firstIn head (s ∷ ss)
-unfolding firstIn firstValue
+pub first_more : (head : Head) (e s : Entry) (ss : List Entry) → first_in head (e ∷ s ∷ ss) ≡ first_in head (s ∷ ss)
+unfolding first_in first_value
 first_more head e s ss = refl
 
-pub total-more : (head : Head) (e s : Entry) (ss : List Entry) → IsFlag e.flag → total_of head (e ∷ s ∷ ss) ≡ total_of head (s ∷ ss) +ℤ advanceOf head.dials e.value e.flag s.value
-unfolding total_of advanceOf
-total-more head e s ss flag =
+pub total_more : (head : Head) (e s : Entry) (ss : List Entry) → IsFlag e.flag → total_of head (e ∷ s ∷ ss) ≡ total_of head (s ∷ ss) +ℤ advance_of head.dials e.value e.flag s.value
+unfolding total_of advance_of
+total_more head e s ss flag =
     let n = head.dials in
-    let F : ℕ = flaggedIn head (s ∷ ss) in
-    let first : ℤ = pos (firstIn head (s ∷ ss)) in
-    ap₂ (λ (v k : ℕ). turned n (pos e.value -ℤ pos v) k) (first_more head e s ss) (flagged-in head e (s ∷ ss) flag)
-    ∙ ap (λ (z : ℤ). pos e.value -ℤ first +ℤ z) (ap pos (add-mul F e.flag (tenTo n)) ∙ sym (pos-+ℤ-pos (F * tenTo n) (e.flag * tenTo n)))
-    ∙ sym (joined (pos e.value) (pos s.value) first (pos (F * tenTo n)) (pos (e.flag * tenTo n)))
+    let F : ℕ = flagged_in head (s ∷ ss) in
+    let first : ℤ = pos (first_in head (s ∷ ss)) in
+    ap₂ (λ (v k : ℕ). turned n (pos e.value -ℤ pos v) k) (first_more head e s ss) (flagged_in_lem head e (s ∷ ss) flag)
+    ∙ ap (λ (z : ℤ). pos e.value -ℤ first +ℤ z) (ap pos (add-mul F e.flag (ten_to n)) ∙ sym (pos-+ℤ-pos (F * ten_to n) (e.flag * ten_to n)))
+    ∙ sym (joined (pos e.value) (pos s.value) first (pos (F * ten_to n)) (pos (e.flag * ten_to n)))
 
-pub flagged-none : flaggedOf [] ≡ 0
-unfolding flaggedOf those
-flagged-none = refl
+pub flagged_none : flagged_of [] ≡ 0
+unfolding flagged_of those
+flagged_none = refl
 
 -- ---- a head without a carry
 pub record Bare (head : Head) : Type 0 where
   pub uncarried : head.carried ≡ false
   pub none : head.carry ≡ no_carry
 
-pub first-bare : (head : Head) (ss : List Entry) → Bare head → firstIn head ss ≡ firstValue ss
-unfolding firstIn
-first-bare head ss b = rw b.uncarried
+pub first_bare : (head : Head) (ss : List Entry) → Bare head → first_in head ss ≡ first_value ss
+unfolding first_in
+first_bare head ss b = rw b.uncarried
 
-pub flagged-bare : (head : Head) (ss : List Entry) → Bare head → flaggedIn head ss ≡ flaggedOf ss
-unfolding flaggedIn no_carry
-flagged-bare head ss b = rw b.none (zero-add (flaggedOf ss))
+pub flagged_bare : (head : Head) (ss : List Entry) → Bare head → flagged_in head ss ≡ flagged_of ss
+unfolding flagged_in no_carry
+flagged_bare head ss b = rw b.none (zero-add (flagged_of ss))
 
-pub folded-bare : (head : Head) → Bare head → head.carry.folded ≡ 0
+pub folded_bare : (head : Head) → Bare head → head.carry.folded ≡ 0
 unfolding no_carry
-folded-bare head b = rw b.none
+folded_bare head b = rw b.none
 
 -- the only read of a meter that has none: it advances by nothing
 pub total_first : (head : Head) (e : Entry) → Bare head → e.flag ≡ 0 → total_of head (e ∷ []) ≡ pos 0
-unfolding total_of firstValue advanceOf
+unfolding total_of first_value advance_of
 total_first head e bare h =
-    let none : flaggedIn head (e ∷ []) ≡ 0 = flagged-bare head (e ∷ []) bare ∙ flagged-more e [] (inl h) ∙ omega (arith, flagged-none) in
-    ap₂ (λ (v k : ℕ). turned head.dials (pos e.value -ℤ pos v) k) (first-bare head (e ∷ []) bare) none
-    ∙ ap₂ ◌+ℤ◌ (+ℤ_invr (pos e.value)) (ap pos (zero-mul (tenTo head.dials)))
+    let none : flagged_in head (e ∷ []) ≡ 0 = flagged_bare head (e ∷ []) bare ∙ flagged_more e [] (inl h) ∙ omega (arith, flagged_none) in
+    ap₂ (λ (v k : ℕ). turned head.dials (pos e.value -ℤ pos v) k) (first_bare head (e ∷ []) bare) none
+    ∙ ap₂ ◌+ℤ◌ (+ℤ_invr (pos e.value)) (ap pos (zero-mul (ten_to head.dials)))
 
 -- ---- the total is the paper's sum, over the names of the standing reads and of those that were folded
-pub total-sum : (head : Head) → head.dials < 10 → (s : Entry) (ss : List Entry) (rest : List Named) → firstValueOf (named s.day s.value) rest ≡ firstIn head (s ∷ ss) → total_of head (s ∷ ss) ≡ lastLessFirst (named s.day s.value ∷ rest) +ℤ pos (10 ^ head.dials) *ℤ pos (flaggedIn head (s ∷ ss))
-unfolding total_of lastLessFirst advanceOf
-total-sum head h s ss rest first =
+pub total_sum : (head : Head) → head.dials < 10 → (s : Entry) (ss : List Entry) (rest : List Named) → first_value_of (named s.day s.value) rest ≡ first_in head (s ∷ ss) → total_of head (s ∷ ss) ≡ last_less_first (named s.day s.value ∷ rest) +ℤ pos (10 ^ head.dials) *ℤ pos (flagged_in head (s ∷ ss))
+unfolding total_of last_less_first advance_of
+total_sum head h s ss rest first =
     ap₂ ◌+ℤ◌
     (ap (λ (k : ℕ). pos s.value -ℤ pos k) (sym first))
-    (ap pos (ap (λ (k : ℕ). flaggedIn head (s ∷ ss) * k) (in_table h) ∙ mul_comm (flaggedIn head (s ∷ ss)) (10 ^ head.dials)))
+    (ap pos (ap (λ (k : ℕ). flagged_in head (s ∷ ss) * k) (in_table h) ∙ mul_comm (flagged_in head (s ∷ ss)) (10 ^ head.dials)))
 
 -- ---- a fold loses no total
-keep-length : (t : Bool) (e : Entry) (es : List Entry) → length (keepIf t e es) ≡ cond t 1 0 + length es
-keep-length true e es = omega arith
-keep-length false e es = omega arith
+keep_length : (t : Bool) (e : Entry) (es : List Entry) → length (keep_if t e es) ≡ cond t 1 0 + length es
+keep_length true e es = omega arith
+keep_length false e es = omega arith
 
 module _ (j : Journal) (a b c : Entry) (rest : List Entry) (st : standing j.entries ≡ a ∷ b ∷ c ∷ rest) where
   abbrev ss : List Entry
@@ -125,33 +125,33 @@ module _ (j : Journal) (a b c : Entry) (rest : List Entry) (st : standing j.entr
   abbrev three : List Entry
   three = a ∷ b ∷ c ∷ []
 
-  flagged-parts : flaggedOf (a ∷ b ∷ c ∷ rest) ≡ flaggedOf rest + flaggedOf three
-  unfolding flaggedOf those
-  flagged-parts =
-      keep-length (isFlagged a) a (keepIf (isFlagged b) b (keepIf (isFlagged c) c (those isFlagged rest)))
+  flagged_parts : flagged_of (a ∷ b ∷ c ∷ rest) ≡ flagged_of rest + flagged_of three
+  unfolding flagged_of those
+  flagged_parts =
+      keep_length (is_flagged a) a (keep_if (is_flagged b) b (keep_if (is_flagged c) c (those is_flagged rest)))
       ∙ omega (
         arith,
-        keep-length (isFlagged b) b (keepIf (isFlagged c) c (those isFlagged rest)),
-        keep-length (isFlagged c) c (those isFlagged rest),
-        keep-length (isFlagged a) a (keepIf (isFlagged b) b (keepIf (isFlagged c) c [])),
-        keep-length (isFlagged b) b (keepIf (isFlagged c) c []),
-        keep-length (isFlagged c) c [],
+        keep_length (is_flagged b) b (keep_if (is_flagged c) c (those is_flagged rest)),
+        keep_length (is_flagged c) c (those is_flagged rest),
+        keep_length (is_flagged a) a (keep_if (is_flagged b) b (keep_if (is_flagged c) c [])),
+        keep_length (is_flagged b) b (keep_if (is_flagged c) c []),
+        keep_length (is_flagged c) c [],
       )
 
-  pub flagged-stay : flaggedIn (headAfter j) three ≡ flaggedIn j.head ss
-  unfolding flaggedIn headAfter carryAfter
-  flagged-stay = rw st (omega (arith, flagged-parts))
+  pub flagged_stay : flagged_in (head_after j) three ≡ flagged_in j.head ss
+  unfolding flagged_in head_after carry_after
+  flagged_stay = rw st (omega (arith, flagged_parts))
 
-  pub standing-stay : standingIn (headAfter j) three ≡ standingIn j.head ss
-  unfolding standingIn headAfter carryAfter
-  standing-stay = rw st (omega arith)
+  pub standing_stay : standing_in (head_after j) three ≡ standing_in j.head ss
+  unfolding standing_in head_after carry_after
+  standing_stay = rw st (omega arith)
 
-  pub first-stays : (more : List Entry) → firstIn (headAfter j) more ≡ firstIn j.head ss
-  unfolding firstIn headAfter carryAfter
-  first-stays more = refl
+  pub first_stays : (more : List Entry) → first_in (head_after j) more ≡ first_in j.head ss
+  unfolding first_in head_after carry_after
+  first_stays more = refl
 
-  pub total-stays : total_of (headAfter j) three ≡ total_of j.head ss
-  unfolding total_of headAfter
-  total-stays =
-      ap₂ (λ (v k : ℕ). advanceOf j.head.dials a.value k v) (first-stays three) flagged-stay
+  pub total_stays : total_of (head_after j) three ≡ total_of j.head ss
+  unfolding total_of head_after
+  total_stays =
+      ap₂ (λ (v k : ℕ). advance_of j.head.dials a.value k v) (first_stays three) flagged_stay
       ∙ rw st

@@ -5,71 +5,71 @@ use mathlib.Core.List.{List, [], ◌∷◌}
 use Prim.Native.Nat.{ℕ}
 use Rattle.calls.specs.declared.call.Call.{Call}
 use Rattle.calls.specs.Calls.{step}
-use Rattle.calls.specs.Play.{Exchange, exchange, exchanges, registerAfter, zeroRegister, isTrial, names, isPicked, picked, calls_of}
-use Rattle.calls.specs.Ledger.{Ledger, emptyLedger, isAccepted, ledgerAfter, ledgerOf}
-use Rattle.calls.specs.DemandThree.{runA}
-use Rattle.calls.specs.Trials.{lessTrials, lessTried, TrialsAlterNothing}
-use Rattle.calls.proofs.Bools.{by-test}
+use Rattle.calls.specs.Play.{Exchange, exchange, exchanges, register_after, zero_register, is_trial, names, is_picked, picked, calls_of}
+use Rattle.calls.specs.Ledger.{Ledger, empty_ledger, is_accepted, ledger_after, ledger_of}
+use Rattle.calls.specs.DemandThree.{run_a}
+use Rattle.calls.specs.Trials.{less_trials, less_tried, TrialsAlterNothing}
+use Rattle.calls.proofs.Bools.{by_test}
 use Rattle.calls.proofs.Tried.{untouched}
 
 -- ---- bytes and answers
-pub same_bytes : (calls : List Call) (register : List ℕ) → registerAfter calls register ≡ registerAfter (lessTrials calls) register
-unfolding registerAfter lessTrials
+pub same_bytes : (calls : List Call) (register : List ℕ) → register_after calls register ≡ register_after (less_trials calls) register
+unfolding register_after less_trials
 same_bytes [] register = refl
 same_bytes (call ∷ calls) register =
-    by-test (isTrial call)
+    by_test (is_trial call)
     (λ h. rw (h, untouched call h register) (same_bytes calls register))
     (λ h. rw h (same_bytes calls (step call register).register))
 
-pub same-answers : (calls : List Call) (register : List ℕ) → lessTried (exchanges calls register) ≡ exchanges (lessTrials calls) register
-unfolding exchanges lessTrials lessTried
-same-answers [] register = refl
-same-answers (call ∷ calls) register =
-    by-test (isTrial call)
-    (λ h. rw (h, untouched call h register) (same-answers calls register))
+pub same_answers : (calls : List Call) (register : List ℕ) → less_tried (exchanges calls register) ≡ exchanges (less_trials calls) register
+unfolding exchanges less_trials less_tried
+same_answers [] register = refl
+same_answers (call ∷ calls) register =
+    by_test (is_trial call)
+    (λ h. rw (h, untouched call h register) (same_answers calls register))
     (λ h.
     let x = exchange call (step call register).reply in
-    rw h (ap (λ (xs : List Exchange). x ∷ xs) (same-answers calls (step call register).register)))
+    rw h (ap (λ (xs : List Exchange). x ∷ xs) (same_answers calls (step call register).register)))
 
 -- ---- a meter's part of a run
 module _ (meter : ℕ) where
-  tried-unnamed : (call : Call) → isTrial call ≡ true → names meter call ≡ false
+  tried_unnamed : (call : Call) → is_trial call ≡ true → names meter call ≡ false
   unfolding names
-  tried-unnamed call h = rw h
+  tried_unnamed call h = rw h
 
-  same-ledger : (xs : List Exchange) (l : Ledger) → ledgerAfter meter xs l ≡ ledgerAfter meter (lessTried xs) l
-  unfolding ledgerAfter lessTried isAccepted
-  same-ledger [] l = refl
-  same-ledger (x ∷ xs) l =
-      by-test (isTrial x.call)
-      (λ h. rw (h, tried-unnamed x.call h) (same-ledger xs l))
-      (λ h. rw h (same-ledger xs _))
+  same_ledger : (xs : List Exchange) (l : Ledger) → ledger_after meter xs l ≡ ledger_after meter (less_tried xs) l
+  unfolding ledger_after less_tried is_accepted
+  same_ledger [] l = refl
+  same_ledger (x ∷ xs) l =
+      by_test (is_trial x.call)
+      (λ h. rw (h, tried_unnamed x.call h) (same_ledger xs l))
+      (λ h. rw h (same_ledger xs _))
 
-  same-picked : (xs : List Exchange) → picked meter xs ≡ picked meter (lessTried xs)
-  unfolding picked lessTried isPicked
-  same-picked [] = refl
-  same-picked (x ∷ xs) =
-      by-test (isTrial x.call)
-      (λ h. rw (h, tried-unnamed x.call h) (same-picked xs))
-      (λ h. rw (h, same-picked xs))
+  same_picked : (xs : List Exchange) → picked meter xs ≡ picked meter (less_tried xs)
+  unfolding picked less_tried is_picked
+  same_picked [] = refl
+  same_picked (x ∷ xs) =
+      by_test (is_trial x.call)
+      (λ h. rw (h, tried_unnamed x.call h) (same_picked xs))
+      (λ h. rw (h, same_picked xs))
 
   module _ (calls : List Call) where
-    same_runs : lessTried (runA calls) ≡ runA (lessTrials calls)
-    same_runs = same-answers calls zeroRegister
+    same_runs : less_tried (run_a calls) ≡ run_a (less_trials calls)
+    same_runs = same_answers calls zero_register
 
-    pub same_sum : ledgerOf meter (runA calls) ≡ ledgerOf meter (runA (lessTrials calls))
-    unfolding ledgerOf
-    same_sum = same-ledger (runA calls) emptyLedger ∙ ap (ledgerOf meter) same_runs
+    pub same_sum : ledger_of meter (run_a calls) ≡ ledger_of meter (run_a (less_trials calls))
+    unfolding ledger_of
+    same_sum = same_ledger (run_a calls) empty_ledger ∙ ap (ledger_of meter) same_runs
 
-    pub same-calls : calls_of (picked meter (runA calls)) ≡ calls_of (picked meter (runA (lessTrials calls)))
-    same-calls = ap calls_of (same-picked (runA calls) ∙ ap (picked meter) same_runs)
+    pub same_calls : calls_of (picked meter (run_a calls)) ≡ calls_of (picked meter (run_a (less_trials calls)))
+    same_calls = ap calls_of (same_picked (run_a calls) ∙ ap (picked meter) same_runs)
 
-pub trials-alter-nothing : TrialsAlterNothing
+pub trials_alter_nothing : TrialsAlterNothing
 unfolding TrialsAlterNothing
-trials-alter-nothing calls =
+trials_alter_nothing calls =
     record {
       bytes = same_bytes calls;
-      answers = same-answers calls;
+      answers = same_answers calls;
       in_a = λ meter. same_sum meter calls;
-      in_b = λ meter. same-calls meter calls;
+      in_b = λ meter. same_calls meter calls;
     }

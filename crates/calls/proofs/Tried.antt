@@ -6,30 +6,30 @@ use Prim.Native.Nat.{ℕ}
 use lib.Dec.{eqb}
 use Rattle.terms.specs.declared.submission.Submission.{Submission}
 use Rattle.terms.specs.Number.{accepted}
-use Rattle.register.specs.Area.{areaOf}
-use Rattle.register.proofs.Areas.{own-area}
+use Rattle.register.specs.Area.{area_of}
+use Rattle.register.proofs.Areas.{own_area}
 use Rattle.calls.specs.declared.call.Call.{Call}
 use Rattle.calls.specs.declared.call.Call.TheVariants.{Enrol, Submit, Withdraw, Report as ReportCall, Fold, Trial}
 use Rattle.calls.specs.declared.call.Reply.{Reply}
-use Rattle.calls.specs.Calls.{submitIn, trialIn, act, place_of, refusalOf, placeNumber, onArea, Done, done, step}
-use Rattle.calls.specs.Play.{isTrial}
+use Rattle.calls.specs.Calls.{submit_in, trial_in, act, place_of, refusal_of, place_number, on_area, Done, done, step}
+use Rattle.calls.specs.Play.{is_trial}
 use Rattle.calls.specs.Trials.{TrialsForetell}
-use Rattle.calls.proofs.Bools.{apart, by-test}
+use Rattle.calls.proofs.Bools.{apart, by_test}
 
 pub foretells : TrialsForetell
-unfolding TrialsForetell step act trialIn place_of refusalOf onArea
+unfolding TrialsForetell step act trial_in place_of refusal_of on_area
 foretells place s register =
-    by-test (eqb (placeNumber place register) accepted)
-    (λ h. rw h (ap (done (submitIn s (areaOf place register)).reply) (own-area place register)))
+    by_test (eqb (place_number place register) accepted)
+    (λ h. rw h (ap (done (submit_in s (area_of place register)).reply) (own_area place register)))
     (λ h. rw h)
 
 -- the submission's answer, and the register as it is, are what the trial comes to
-pub is-trial : (place : ℕ) (s : Submission) (register : List ℕ) {reply : Reply} → reply ≡ (step (Submit place s) register).reply → done reply register ≡ step (Trial place s) register
+pub is_trial_lem : (place : ℕ) (s : Submission) (register : List ℕ) {reply : Reply} → reply ≡ (step (Submit place s) register).reply → done reply register ≡ step (Trial place s) register
 unfolding TrialsForetell
-is-trial place s register e = rw e (sym (foretells place s register))
+is_trial_lem place s register e = rw e (sym (foretells place s register))
 
-pub untouched : (call : Call) → isTrial call ≡ true → (register : List ℕ) → (step call register).register ≡ register
-unfolding isTrial TrialsForetell
+pub untouched : (call : Call) → is_trial call ≡ true → (register : List ℕ) → (step call register).register ≡ register
+unfolding is_trial TrialsForetell
 untouched (Enrol place profile dials capacity) h register = absurd (apart h refl)
 untouched (Submit place s) h register = absurd (apart h refl)
 untouched (Withdraw place day value) h register = absurd (apart h refl)

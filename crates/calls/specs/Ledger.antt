@@ -6,7 +6,7 @@ use Rattle.calls.specs.declared.call.Call.{Call}
 use Rattle.calls.specs.declared.call.Call.TheVariants.{Enrol, Submit, Withdraw, Report as ReportCall, Fold, Trial}
 use Rattle.calls.specs.declared.call.Reply.{Reply}
 use Rattle.calls.specs.declared.call.Reply.TheVariants.{Answered, Reported}
-use Rattle.calls.specs.Fold.{readsKept}
+use Rattle.calls.specs.Fold.{reads_kept}
 use Rattle.calls.specs.Play.{Exchange, number_of, names}
 
 -- a read by its day and value
@@ -17,13 +17,13 @@ pub record Named : Type 0 where
 abbrev pub named : ℕ → ℕ → Named
 named day value = record { day = day; value = value }
 
-unfoldable pub isSameRead : Named → Named → Bool
-isSameRead a b = eqb a.day b.day && eqb a.value b.value
+unfoldable pub is_same_read : Named → Named → Bool
+is_same_read a b = eqb a.day b.day && eqb a.value b.value
 
 -- "takes out the read of its day and value"
-unfoldable pub takeOut : Named → List Named → List Named
-takeOut r [] = []
-takeOut r (s ∷ ss) = cond (isSameRead r s) ss (s ∷ takeOut r ss)
+unfoldable pub take_out : Named → List Named → List Named
+take_out r [] = []
+take_out r (s ∷ ss) = cond (is_same_read r s) ss (s ∷ take_out r ss)
 
 -- What a meter's accepted calls come to. The lists have the newest first, so that the paper's end of a list is its front.
 pub record Ledger : Type 0 where
@@ -41,12 +41,12 @@ pub record Ledger : Type 0 where
   pub folded : ℕ
 
 -- "It starts empty."
-unfoldable pub emptyLedger : Ledger
-emptyLedger = record { standing = []; advances = pos 0; flags = pos 0; dials = 0; withdrawn = []; folded = 0 }
+unfoldable pub empty_ledger : Ledger
+empty_ledger = record { standing = []; advances = pos 0; flags = pos 0; dials = 0; withdrawn = []; folded = 0 }
 
 -- "flagged means answered with flag 1"
-unfoldable pub flagOf : Answer → ℤ
-flagOf a = cond (eqb a.flag 1) (pos 1) (pos 0)
+unfoldable pub flag_of : Answer → ℤ
+flag_of a = cond (eqb a.flag 1) (pos 1) (pos 0)
 
 -- "An accepted submission puts its day and value at the end. An accepted withdrawal takes out the read of its day and value."
 unfoldable pub entered : Call → Reply → Ledger → Ledger
@@ -63,7 +63,7 @@ entered (Submit place s) (Answered a) l =
     record {
       standing = named s.day s.value ∷ l.standing;
       advances = l.advances +ℤ a.advance;
-      flags = l.flags +ℤ flagOf a;
+      flags = l.flags +ℤ flag_of a;
       dials = l.dials;
       withdrawn = l.withdrawn;
       folded = l.folded;
@@ -71,9 +71,9 @@ entered (Submit place s) (Answered a) l =
 entered (Submit place s) (Reported r) l = l
 entered (Withdraw place day value) (Answered a) l =
     record {
-      standing = takeOut (named day value) l.standing;
+      standing = take_out (named day value) l.standing;
       advances = l.advances +ℤ a.advance;
-      flags = l.flags -ℤ flagOf a;
+      flags = l.flags -ℤ flag_of a;
       dials = l.dials;
       withdrawn = named day value ∷ l.withdrawn;
       folded = l.folded;
@@ -88,59 +88,59 @@ entered (Fold place) reply l =
       flags = l.flags;
       dials = l.dials;
       withdrawn = l.withdrawn;
-      folded = length l.standing - readsKept;
+      folded = length l.standing - reads_kept;
     }
 entered (Trial place s) reply l = l
 
 -- "Accepted means answered 0", here at this meter
-unfoldable pub isAccepted : ℕ → Exchange → Bool
-isAccepted meter x = names meter x.call && eqb (number_of x.reply) accepted
+unfoldable pub is_accepted : ℕ → Exchange → Bool
+is_accepted meter x = names meter x.call && eqb (number_of x.reply) accepted
 
 -- "Any other call, and any answer but 0 (19 and 20 too), changes nothing."
-unfoldable pub ledgerAfter : ℕ → List Exchange → Ledger → Ledger
-ledgerAfter meter [] l = l
-ledgerAfter meter (x ∷ xs) l = ledgerAfter meter xs (cond (isAccepted meter x) (entered x.call x.reply l) l)
+unfoldable pub ledger_after : ℕ → List Exchange → Ledger → Ledger
+ledger_after meter [] l = l
+ledger_after meter (x ∷ xs) l = ledger_after meter xs (cond (is_accepted meter x) (entered x.call x.reply l) l)
 
-unfoldable pub ledgerOf : ℕ → List Exchange → Ledger
-ledgerOf meter xs = ledgerAfter meter xs emptyLedger
+unfoldable pub ledger_of : ℕ → List Exchange → Ledger
+ledger_of meter xs = ledger_after meter xs empty_ledger
 
 -- a call that was accepted at this meter is among the exchanges
-unfoldable pub hasAccepted : ℕ → List Exchange → Bool
-hasAccepted meter [] = false
-hasAccepted meter (x ∷ xs) = isAccepted meter x || hasAccepted meter xs
+unfoldable pub has_accepted : ℕ → List Exchange → Bool
+has_accepted meter [] = false
+has_accepted meter (x ∷ xs) = is_accepted meter x || has_accepted meter xs
 
 -- "the meter's accepted enrolment" is among them
-unfoldable pub isEnrolment : Call → Bool
-isEnrolment (Enrol place profile dials capacity) = true
-isEnrolment (Submit place read) = false
-isEnrolment (Withdraw place day value) = false
-isEnrolment (ReportCall place) = false
-isEnrolment (Fold place) = false
-isEnrolment (Trial place read) = false
+unfoldable pub is_enrolment : Call → Bool
+is_enrolment (Enrol place profile dials capacity) = true
+is_enrolment (Submit place read) = false
+is_enrolment (Withdraw place day value) = false
+is_enrolment (ReportCall place) = false
+is_enrolment (Fold place) = false
+is_enrolment (Trial place read) = false
 
-unfoldable pub hasEnrolment : ℕ → List Exchange → Bool
-hasEnrolment meter [] = false
-hasEnrolment meter (x ∷ xs) = isAccepted meter x && isEnrolment x.call || hasEnrolment meter xs
+unfoldable pub has_enrolment : ℕ → List Exchange → Bool
+has_enrolment meter [] = false
+has_enrolment meter (x ∷ xs) = is_accepted meter x && is_enrolment x.call || has_enrolment meter xs
 
 -- "First and last are the two ends; of one read they are the same."
-unfoldable pub firstValueOf : Named → List Named → ℕ
-firstValueOf s [] = s.value
-firstValueOf s (t ∷ ss) = firstValueOf t ss
+unfoldable pub first_value_of : Named → List Named → ℕ
+first_value_of s [] = s.value
+first_value_of s (t ∷ ss) = first_value_of t ss
 
 -- "its last standing value minus its first (0 if none stands)"
-unfoldable pub lastLessFirst : List Named → ℤ
-lastLessFirst [] = pos 0
-lastLessFirst (s ∷ ss) = pos s.value -ℤ pos (firstValueOf s ss)
+unfoldable pub last_less_first : List Named → ℤ
+last_less_first [] = pos 0
+last_less_first (s ∷ ss) = pos s.value -ℤ pos (first_value_of s ss)
 
 -- a list "less its first reads, as many as were folded": the first are at its end here
-unfoldable pub lessFirst : ℕ → List Named → List Named
-lessFirst folded rs = take (length rs - folded) rs
+unfoldable pub less_first : ℕ → List Named → List Named
+less_first folded rs = take (length rs - folded) rs
 
-unfoldable pub isAmong : Named → List Named → Bool
-isAmong r [] = false
-isAmong r (s ∷ ss) = isSameRead r s || isAmong r ss
+unfoldable pub is_among : Named → List Named → Bool
+is_among r [] = false
+is_among r (s ∷ ss) = is_same_read r s || is_among r ss
 
 -- no read of the first list is in the second
-unfoldable pub areNoneOf : List Named → List Named → Bool
-areNoneOf [] others = true
-areNoneOf (r ∷ rs) others = not (isAmong r others) && areNoneOf rs others
+unfoldable pub are_none_of : List Named → List Named → Bool
+are_none_of [] others = true
+are_none_of (r ∷ rs) others = not (is_among r others) && are_none_of rs others

@@ -2,71 +2,71 @@
 -- standing, F with an F standing), 14 to 21." Examples of this order: each read is refused by the first of two checks that it breaks. Where no
 -- row stands, as for 8 and 1 or for 12 and 13, no sound journal has a read that breaks both.
 use Rattle.std.specs.Prelude.{◌≡◌, [], ◌∷◌, replicate}
-use Rattle.terms.specs.Entry.{indicatorNotSet, indicatorFalse, indicatorTrue}
-use Rattle.terms.specs.Letter.{letterI, letterF, letterC, letterU}
-use Rattle.terms.specs.Number.{repeat, missing, content, date, withdrawnRead, readAT, readEH, readBF, backDated, readDF, indicatorOnOpening, noOriginal, full, readEE, readEF, low, high}
+use Rattle.terms.specs.Entry.{indicator_not_set, indicator_false, indicator_true}
+use Rattle.terms.specs.Letter.{letter_i, letter_f, letter_c, letter_u}
+use Rattle.terms.specs.Number.{repeat, missing, content, date, withdrawn_read, read_at, read_eh, read_bf, back_dated, read_df, indicator_on_opening, no_original, full, read_ee, read_ef, low, high}
 use Rattle.journal.specs.Journal.{Journal}
-use Rattle.calls.specs.CheckExamples.{stood, gone, journal, empty, opening, alone, emptied, running, closed, goneAndOne, sentOn, sent, sentAgain, number_in}
+use Rattle.calls.specs.CheckExamples.{stood, gone, journal, empty, opening, alone, emptied, running, closed, gone_and_one, sent_on, sent, sent_again, number_in}
 
 -- fifty entries: one stands, and none does
 abbrev pub filled : Journal
-filled = journal (goneAndOne 49)
+filled = journal (gone_and_one 49)
 
-abbrev pub filledAndEmptied : Journal
-filledAndEmptied = journal (replicate 50 (gone letterI 20 9200))
+abbrev pub filled_and_emptied : Journal
+filled_and_emptied = journal (replicate 50 (gone letter_i 20 9200))
 
 -- 750 in ten days
 abbrev pub steep : Journal
-steep = journal (stood letterC 30 9950 indicatorNotSet ∷ opening ∷ [])
+steep = journal (stood letter_c 30 9950 indicator_not_set ∷ opening ∷ [])
 
 -- THE CLAIM: one row for each example
 pub record OrderExamplesHold : Type 0 where
   -- "Submit checks 2 to 8": 5, 6, 7 and 8, and these before any of the others. A missing value is no value of the dials, so 5 is before 6
   -- wherever it is answered. 29, which is between 6 and 7, has its rows among those of a profile.
-  pub missing-before-content : number_in running (sent 90 80 4294967295 indicatorNotSet) ≡ missing
-  pub content-before-date : number_in running (sent 90 0 9800 indicatorNotSet) ≡ content
-  pub date-before-withdrawn : number_in running (sentOn 69 0 letterC 70 9650 indicatorNotSet) ≡ date
-  pub date-before-repeat : number_in running (sentOn 59 0 letterC 60 9600 indicatorFalse) ≡ date
-  pub withdrawn-before-AT : number_in running (sent letterI 60 9601 indicatorFalse) ≡ withdrawnRead
-  pub withdrawn-before-EH : number_in running (sent letterC 60 9601 indicatorNotSet) ≡ withdrawnRead
-  pub withdrawn-before-BF : number_in running (sent letterC 60 9601 indicatorFalse) ≡ withdrawnRead
-  pub withdrawn-before-back-dated : number_in running (sent letterC 50 9500 indicatorNotSet) ≡ withdrawnRead
-  pub withdrawn-before-DF : number_in emptied (sent letterC 20 9200 indicatorNotSet) ≡ withdrawnRead
-  pub withdrawn-before-no-original : number_in running (sentAgain letterC 70 9650 indicatorNotSet) ≡ withdrawnRead
+  pub missing_before_content : number_in running (sent 90 80 4294967295 indicator_not_set) ≡ missing
+  pub content_before_date : number_in running (sent 90 0 9800 indicator_not_set) ≡ content
+  pub date_before_withdrawn : number_in running (sent_on 69 0 letter_c 70 9650 indicator_not_set) ≡ date
+  pub date_before_repeat : number_in running (sent_on 59 0 letter_c 60 9600 indicator_false) ≡ date
+  pub withdrawn_before_at : number_in running (sent letter_i 60 9601 indicator_false) ≡ withdrawn_read
+  pub withdrawn_before_eh : number_in running (sent letter_c 60 9601 indicator_not_set) ≡ withdrawn_read
+  pub withdrawn_before_bf : number_in running (sent letter_c 60 9601 indicator_false) ≡ withdrawn_read
+  pub withdrawn_before_back_dated : number_in running (sent letter_c 50 9500 indicator_not_set) ≡ withdrawn_read
+  pub withdrawn_before_df : number_in emptied (sent letter_c 20 9200 indicator_not_set) ≡ withdrawn_read
+  pub withdrawn_before_no_original : number_in running (sent_again letter_c 70 9650 indicator_not_set) ≡ withdrawn_read
   -- "then, if a read of that day stands, 1, 9 (submitted type I or F), 10, 11"
-  pub repeat-before-AT : number_in closed (sent letterF 40 9400 indicatorNotSet) ≡ repeat
-  pub repeat-before-AT-initial : number_in alone (sent letterI 20 9200 indicatorNotSet) ≡ repeat
-  pub AT-before-EH : number_in running (sent letterI 60 9600 indicatorNotSet) ≡ readAT
-  pub AT-before-BF : number_in running (sent letterF 60 9600 indicatorFalse) ≡ readAT
-  pub EH-before-BF : number_in running (sent letterU 60 9599 indicatorNotSet) ≡ readEH
+  pub repeat_before_at : number_in closed (sent letter_f 40 9400 indicator_not_set) ≡ repeat
+  pub repeat_before_at_initial : number_in alone (sent letter_i 20 9200 indicator_not_set) ≡ repeat
+  pub at_before_eh : number_in running (sent letter_i 60 9600 indicator_not_set) ≡ read_at
+  pub at_before_bf : number_in running (sent letter_f 60 9600 indicator_false) ≡ read_at
+  pub eh_before_bf : number_in running (sent letter_u 60 9599 indicator_not_set) ≡ read_eh
   -- and these before 12 to 21
-  pub repeat-before-back-dated : number_in running (sent letterC 40 9400 indicatorNotSet) ≡ repeat
-  pub AT-before-back-dated : number_in running (sent letterF 40 9401 indicatorNotSet) ≡ readAT
-  pub EH-before-back-dated : number_in running (sent letterC 40 9400 indicatorFalse) ≡ readEH
-  pub BF-before-back-dated : number_in running (sent letterC 40 9401 indicatorNotSet) ≡ readBF
-  pub BF-before-no-original : number_in running (sentAgain letterU 60 9600 indicatorFalse) ≡ readBF
-  pub BF-before-full : number_in filled (sent letterC 20 9200 indicatorNotSet) ≡ readBF
-  pub EH-before-EE : number_in running (sent letterC 60 9600 indicatorTrue) ≡ readEH
+  pub repeat_before_back_dated : number_in running (sent letter_c 40 9400 indicator_not_set) ≡ repeat
+  pub at_before_back_dated : number_in running (sent letter_f 40 9401 indicator_not_set) ≡ read_at
+  pub eh_before_back_dated : number_in running (sent letter_c 40 9400 indicator_false) ≡ read_eh
+  pub bf_before_back_dated : number_in running (sent letter_c 40 9401 indicator_not_set) ≡ read_bf
+  pub bf_before_no_original : number_in running (sent_again letter_u 60 9600 indicator_false) ≡ read_bf
+  pub bf_before_full : number_in filled (sent letter_c 20 9200 indicator_not_set) ≡ read_bf
+  pub eh_before_ee : number_in running (sent letter_c 60 9600 indicator_true) ≡ read_eh
   -- "then 12, 13, 9 (I or O with a read standing, F with an F standing), 14 to 21"
-  pub back-dated-before-AT : number_in closed (sent letterF 59 9599 indicatorNotSet) ≡ backDated
-  pub back-dated-before-AT-initial : number_in running (sent letterI 59 9599 indicatorNotSet) ≡ backDated
-  pub back-dated-before-no-original : number_in running (sentAgain letterC 59 9599 indicatorNotSet) ≡ backDated
-  pub back-dated-before-full : number_in filled (sent letterC 19 9199 indicatorNotSet) ≡ backDated
-  pub DF-before-no-original : number_in empty (sentAgain letterC 40 9400 indicatorNotSet) ≡ readDF
-  pub DF-before-full : number_in filledAndEmptied (sent letterC 40 9400 indicatorNotSet) ≡ readDF
-  pub AT-before-indicator : number_in alone (sent letterI 40 9400 indicatorFalse) ≡ readAT
-  pub AT-before-no-original : number_in alone (sentAgain letterI 40 9400 indicatorNotSet) ≡ readAT
-  pub AT-before-full : number_in filled (sent letterI 40 9400 indicatorNotSet) ≡ readAT
-  pub indicator-before-no-original : number_in empty (sentAgain letterI 40 9400 indicatorFalse) ≡ indicatorOnOpening
-  pub indicator-before-full : number_in filledAndEmptied (sent letterI 40 9400 indicatorFalse) ≡ indicatorOnOpening
-  pub indicator-before-EE : number_in empty (sent letterI 40 9400 indicatorTrue) ≡ indicatorOnOpening
-  pub no-original-before-full : number_in filled (sentAgain letterC 40 9400 indicatorNotSet) ≡ noOriginal
-  pub no-original-before-EE : number_in running (sentAgain letterC 80 9800 indicatorTrue) ≡ noOriginal
-  pub full-before-EE : number_in filled (sent letterC 40 9400 indicatorTrue) ≡ full
-  pub full-before-EF : number_in filled (sent letterC 40 100 indicatorNotSet) ≡ full
-  pub EE-before-low : number_in running (sent letterC 80 9600 indicatorTrue) ≡ readEE
-  pub EE-before-high : number_in running (sent letterC 61 9999 indicatorTrue) ≡ readEE
-  pub EF-before-low : number_in running (sent letterC 80 100 indicatorNotSet) ≡ readEF
+  pub back_dated_before_at : number_in closed (sent letter_f 59 9599 indicator_not_set) ≡ back_dated
+  pub back_dated_before_at_initial : number_in running (sent letter_i 59 9599 indicator_not_set) ≡ back_dated
+  pub back_dated_before_no_original : number_in running (sent_again letter_c 59 9599 indicator_not_set) ≡ back_dated
+  pub back_dated_before_full : number_in filled (sent letter_c 19 9199 indicator_not_set) ≡ back_dated
+  pub df_before_no_original : number_in empty (sent_again letter_c 40 9400 indicator_not_set) ≡ read_df
+  pub df_before_full : number_in filled_and_emptied (sent letter_c 40 9400 indicator_not_set) ≡ read_df
+  pub at_before_indicator : number_in alone (sent letter_i 40 9400 indicator_false) ≡ read_at
+  pub at_before_no_original : number_in alone (sent_again letter_i 40 9400 indicator_not_set) ≡ read_at
+  pub at_before_full : number_in filled (sent letter_i 40 9400 indicator_not_set) ≡ read_at
+  pub indicator_before_no_original : number_in empty (sent_again letter_i 40 9400 indicator_false) ≡ indicator_on_opening
+  pub indicator_before_full : number_in filled_and_emptied (sent letter_i 40 9400 indicator_false) ≡ indicator_on_opening
+  pub indicator_before_ee : number_in empty (sent letter_i 40 9400 indicator_true) ≡ indicator_on_opening
+  pub no_original_before_full : number_in filled (sent_again letter_c 40 9400 indicator_not_set) ≡ no_original
+  pub no_original_before_ee : number_in running (sent_again letter_c 80 9800 indicator_true) ≡ no_original
+  pub full_before_ee : number_in filled (sent letter_c 40 9400 indicator_true) ≡ full
+  pub full_before_ef : number_in filled (sent letter_c 40 100 indicator_not_set) ≡ full
+  pub ee_before_low : number_in running (sent letter_c 80 9600 indicator_true) ≡ read_ee
+  pub ee_before_high : number_in running (sent letter_c 61 9999 indicator_true) ≡ read_ee
+  pub ef_before_low : number_in running (sent letter_c 80 100 indicator_not_set) ≡ read_ef
   -- 20 and then 19 with a capacity that is passed too: 399 in a day, and 14, where 13 a day is the most
-  pub high-before-capacity : number_in running (sent letterC 61 9999 indicatorNotSet) ≡ high
-  pub low-before-capacity : number_in steep (sent letterC 31 9964 indicatorNotSet) ≡ low
+  pub high_before_capacity : number_in running (sent letter_c 61 9999 indicator_not_set) ≡ high
+  pub low_before_capacity : number_in steep (sent letter_c 31 9964 indicator_not_set) ≡ low

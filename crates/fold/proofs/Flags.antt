@@ -8,40 +8,40 @@ use lib.ListN.{length, drop}
 use Rattle.terms.specs.declared.entry.Entry.{Entry}
 use Rattle.terms.specs.declared.entry.Slot.{Slot}
 use Rattle.terms.specs.declared.entry.Slot.TheVariants.{Read, Empty}
-use Rattle.terms.specs.Entry.{keepIf, those, slot_at, recentOf}
-use Rattle.journal.specs.Journal.{isFlagged}
-use Rattle.journal.specs.Total.{flaggedOf}
-use Rattle.calls.specs.Fold.{readsKept}
-use Rattle.fold.specs.Inner.Flags.{flagIn, flagsIn}
+use Rattle.terms.specs.Entry.{keep_if, those, slot_at, recent_of}
+use Rattle.journal.specs.Journal.{is_flagged}
+use Rattle.journal.specs.Total.{flagged_of}
+use Rattle.calls.specs.Fold.{reads_kept}
+use Rattle.fold.specs.Inner.Flags.{flag_in, flags_in}
 
 one_at_most : (b : Bool) → cond b 1 0 ≤ 1
 one_at_most true = omega arith
 one_at_most false = omega arith
 
-pub flag-few : (slot : Slot) → flagIn slot ≤ 1
-unfolding flagIn
-flag-few (Read e) = one_at_most (isFlagged e)
-flag-few Empty = omega arith
+pub flag_few : (slot : Slot) → flag_in slot ≤ 1
+unfolding flag_in
+flag_few (Read e) = one_at_most (is_flagged e)
+flag_few Empty = omega arith
 
-keep-length : (b : Bool) (e : Entry) (es : List Entry) → length (keepIf b e es) ≡ cond b 1 0 + length es
-keep-length true e es = omega arith
-keep-length false e es = omega arith
+keep_length : (b : Bool) (e : Entry) (es : List Entry) → length (keep_if b e es) ≡ cond b 1 0 + length es
+keep_length true e es = omega arith
+keep_length false e es = omega arith
 
-one_more : (e : Entry) (ss : List Entry) → flaggedOf (e ∷ ss) ≡ flagIn (Read e) + flaggedOf ss
-unfolding flaggedOf those flagIn
-one_more e ss = keep-length (isFlagged e) e (those isFlagged ss)
+one_more : (e : Entry) (ss : List Entry) → flagged_of (e ∷ ss) ≡ flag_in (Read e) + flagged_of ss
+unfolding flagged_of those flag_in
+one_more e ss = keep_length (is_flagged e) e (those is_flagged ss)
 
-none : flaggedOf [] ≡ 0
-unfolding flaggedOf those
+none : flagged_of [] ≡ 0
+unfolding flagged_of those
 none = refl
 
-no_flag : flagIn Empty ≡ 0
-unfolding flagIn
+no_flag : flag_in Empty ≡ 0
+unfolding flag_in
 no_flag = refl
 
-pub flags-apart : (ss : List Entry) → flaggedOf ss ≡ flaggedOf (drop readsKept ss) + flagsIn (recentOf ss)
-unfolding flagsIn recentOf slot_at
-flags-apart [] = omega (arith, none, no_flag)
-flags-apart (a ∷ []) = omega (arith, none, no_flag, one_more a [])
-flags-apart (a ∷ b ∷ []) = omega (arith, none, no_flag, one_more a (b ∷ []), one_more b [])
-flags-apart (a ∷ b ∷ c ∷ ss) = omega (arith, one_more a (b ∷ c ∷ ss), one_more b (c ∷ ss), one_more c ss)
+pub flags_apart : (ss : List Entry) → flagged_of ss ≡ flagged_of (drop reads_kept ss) + flags_in (recent_of ss)
+unfolding flags_in recent_of slot_at
+flags_apart [] = omega (arith, none, no_flag)
+flags_apart (a ∷ []) = omega (arith, none, no_flag, one_more a [])
+flags_apart (a ∷ b ∷ []) = omega (arith, none, no_flag, one_more a (b ∷ []), one_more b [])
+flags_apart (a ∷ b ∷ c ∷ ss) = omega (arith, one_more a (b ∷ c ∷ ss), one_more b (c ∷ ss), one_more c ss)

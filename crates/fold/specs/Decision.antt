@@ -5,6 +5,6 @@ use Rattle.fold.specs.declared.decide.Decided.{Decided}
 use Rattle.fold.specs.declared.decide.Decided.TheVariants.{Refused, Taken}
 
 -- "Fold answers flag 0 and advance 0"
-unfoldable pub decidedAnswer : Decided → Answer
-decidedAnswer (Refused number) = refusal number
-decidedAnswer (Taken t) = acceptance
+unfoldable pub decided_answer : Decided → Answer
+decided_answer (Refused number) = refusal number
+decided_answer (Taken t) = acceptance

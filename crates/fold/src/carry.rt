@@ -1,11 +1,11 @@
 // The head of a folded journal: its carry counts the reads that are folded now, with those that were folded before.
 ghost use Rattle.std.specs.Prelude.{◌≡◌, false};
-ghost use Rattle.terms.specs.Entry.{recentOf};
-ghost use Rattle.journal.specs.Journal.{journalOf, standing};
+ghost use Rattle.terms.specs.Entry.{recent_of};
+ghost use Rattle.journal.specs.Journal.{journal_of, standing};
 ghost use Rattle.judge.specs.Inner.Judged.{Counted};
-ghost use Rattle.calls.specs.Checks.{isNoFold};
-ghost use Rattle.calls.specs.Fold.{carryAfter, headAfter};
-ghost use Rattle.fold.specs.Inner.Flags.{flagIn, flagsIn};
+ghost use Rattle.calls.specs.Checks.{is_no_fold};
+ghost use Rattle.calls.specs.Fold.{carry_after, head_after};
+ghost use Rattle.fold.specs.Inner.Flags.{flag_in, flags_in};
 
 use judge::area::Summary;
 use reads::first::first;
@@ -21,7 +21,7 @@ impl Kept {
 }
 
 fn flag_in(slot: Slot) -> u8
-    ensures { result ≡ flagIn slot }
+    ensures { result ≡ flag_in slot }
 {
     match slot {
         Slot::Read(e) => {
@@ -36,7 +36,7 @@ fn flag_in(slot: Slot) -> u8
 
 // How many of the reads that are kept are flagged.
 fn flags_in(kept: Recent) -> u8
-    ensures { result ≡ flagsIn kept }
+    ensures { result ≡ flags_in kept }
 {
     let last = kept.last;
     let second = kept.second;
@@ -46,8 +46,8 @@ fn flags_in(kept: Recent) -> u8
 
 // What is folded is all that was counted but the reads that are kept.
 fn carry_after(area: &[u8], t: Summary, kept: Recent) -> Carry
-    requires { Counted area.now t × (kept ≡ recentOf (standing (journalOf area.now).entries)) × (isNoFold (standing (journalOf area.now).entries) ≡ false) }
-    ensures { result ≡ carryAfter (journalOf area.now) }
+    requires { Counted area.now t × (kept ≡ recent_of (standing (journal_of area.now).entries)) × (is_no_fold (standing (journal_of area.now).entries) ≡ false) }
+    ensures { result ≡ carry_after (journal_of area.now) }
 {
     let head = t.head;
     let carry = head.carry;
@@ -62,8 +62,8 @@ fn carry_after(area: &[u8], t: Summary, kept: Recent) -> Carry
 }
 
 pub(crate) fn head_after(area: &[u8], t: Summary, kept: Recent) -> Head
-    requires { Counted area.now t × (kept ≡ recentOf (standing (journalOf area.now).entries)) × (isNoFold (standing (journalOf area.now).entries) ≡ false) }
-    ensures { result ≡ headAfter (journalOf area.now) }
+    requires { Counted area.now t × (kept ≡ recent_of (standing (journal_of area.now).entries)) × (is_no_fold (standing (journal_of area.now).entries) ≡ false) }
+    ensures { result ≡ head_after (journal_of area.now) }
 {
     let head = t.head;
     let profile = head.profile;

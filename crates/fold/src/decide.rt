@@ -2,8 +2,8 @@
 ghost use Rattle.std.specs.Prelude.{◌≡◌, length};
 ghost use Rattle.register.specs.Area.{area_bytes};
 ghost use Rattle.journal.specs.Journal.{Journal, standing};
-ghost use Rattle.judge.specs.Inner.Judged.{summaryOf};
-ghost use Rattle.calls.specs.Checks.{isNoFold};
+ghost use Rattle.judge.specs.Inner.Judged.{summary_of};
+ghost use Rattle.calls.specs.Checks.{is_no_fold};
 ghost use Rattle.fold.specs.Inner.Decision.{Decides};
 
 use judge::area::{Judged, Summary, judge_area};
@@ -25,7 +25,7 @@ impl Least {
 }
 
 fn is_no_fold(t: Summary) -> bool
-    ensures { (j : Journal) → t ≡ summaryOf j → result ≡ isNoFold (standing j.entries) }
+    ensures { (j : Journal) → t ≡ summary_of j → result ≡ is_no_fold (standing j.entries) }
 {
     let counts = t.counts;
     (counts.standing < Least::STANDING) | t.ended

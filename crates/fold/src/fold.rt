@@ -1,10 +1,10 @@
 // Fold: makes room in a journal, and loses no total.
 ghost use Rattle.std.specs.Prelude.{◌≡◌, false, length, replicate};
 ghost use Rattle.register.specs.Area.{area_bytes};
-ghost use Rattle.journal.specs.Journal.{journalOf, standing, dayOf, areaFor};
+ghost use Rattle.journal.specs.Journal.{journal_of, standing, day_of, area_for};
 ghost use Rattle.judge.specs.Inner.Judged.{Counted};
-ghost use Rattle.calls.specs.Checks.{isNoFold};
-ghost use Rattle.calls.specs.Fold.{foldedJournal};
+ghost use Rattle.calls.specs.Checks.{is_no_fold};
+ghost use Rattle.calls.specs.Fold.{folded_journal};
 ghost use Rattle.calls.specs.Calls.{acted, fold_in, done, step};
 
 use crate::carry::head_after;
@@ -22,7 +22,7 @@ use terms::entry::Slot;
 
 // The day of a read, and 0 where there is none.
 fn day_of(slot: Slot) -> u16
-    ensures { result ≡ dayOf slot }
+    ensures { result ≡ day_of slot }
 {
     match slot {
         Slot::Read(e) => e.day,
@@ -33,8 +33,8 @@ fn day_of(slot: Slot) -> u16
 // The journal that is left, in an area of zeros. It is not written over the old one at once: the carry moves the entries up while those that
 // go let them move down, so that an entry might be written over one that is still to be read.
 fn lay(area: &[u8], t: Summary, left: &mut [u8])
-    requires { Counted area.now t × (isNoFold (standing (journalOf area.now).entries) ≡ false) × (left.old ≡ replicate area_bytes 0) }
-    ensures { left.new ≡ areaFor (foldedJournal (journalOf area.now)) }
+    requires { Counted area.now t × (is_no_fold (standing (journal_of area.now).entries) ≡ false) × (left.old ≡ replicate area_bytes 0) }
+    ensures { left.new ≡ area_for (folded_journal (journal_of area.now)) }
 {
     let start = head_bytes(t.head);
     let kept = kept_of(&area[start..], t.entries);
@@ -46,8 +46,8 @@ fn lay(area: &[u8], t: Summary, left: &mut [u8])
 }
 
 fn write_folded(area: &mut [u8], t: Summary)
-    requires { Counted area.old t × (isNoFold (standing (journalOf area.old).entries) ≡ false) }
-    ensures { area.new ≡ areaFor (foldedJournal (journalOf area.old)) }
+    requires { Counted area.old t × (is_no_fold (standing (journal_of area.old).entries) ≡ false) }
+    ensures { area.new ≡ area_for (folded_journal (journal_of area.old)) }
 {
     let mut left = [0; Layout::AREA_BYTES];
     lay(area, t, &mut left);

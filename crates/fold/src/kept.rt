@@ -1,8 +1,8 @@
 // The last three standing reads, which a fold keeps.
 ghost use Rattle.std.specs.Prelude.{◌≡◌, List, ◌∷◌};
 ghost use Rattle.terms.specs.declared.entry.Entry.{Entry};
-ghost use Rattle.terms.specs.Entry.{recentOf};
-ghost use Rattle.journal.specs.Journal.{entriesTo, standing};
+ghost use Rattle.terms.specs.Entry.{recent_of};
+ghost use Rattle.journal.specs.Journal.{entries_to, standing};
 
 use journal::order::is_standing;
 use register::read::entry_after;
@@ -10,7 +10,7 @@ use terms::entry::{Entry, Recent, Slot};
 
 // With one entry more.
 fn newer(kept: Recent, e: Entry) -> Recent
-    ensures { (es : List Entry) → kept ≡ recentOf (standing es) → result ≡ recentOf (standing (e ∷ es)) }
+    ensures { (es : List Entry) → kept ≡ recent_of (standing es) → result ≡ recent_of (standing (e ∷ es)) }
 {
     if !is_standing(e) {
         return kept;
@@ -27,7 +27,7 @@ fn newer(kept: Recent, e: Entry) -> Recent
 // Those among the first m entries of a body. `reads::recent` finds them from what was counted; it is left to the submissions, which are many,
 // since the compiler puts into its caller what has one caller.
 pub(crate) fn kept_of(body: &[u8], m: u8) -> Recent
-    ensures { result ≡ recentOf (standing (entriesTo m body.now)) }
+    ensures { result ≡ recent_of (standing (entries_to m body.now)) }
 {
     let mut kept = Recent {
         last: Slot::Empty,

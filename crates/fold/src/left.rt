@@ -1,8 +1,8 @@
 // The entries that a fold leaves, written one after another.
 ghost use Rattle.std.specs.Prelude.{◌≡◌, List, ℕ, ◌+◌, ◌≤◌, ◌<◌, length};
 ghost use Rattle.terms.specs.declared.entry.Entry.{Entry};
-ghost use Rattle.terms.specs.Entry.{keepIf, those};
-ghost use Rattle.journal.specs.Journal.{entriesTo, putEntries};
+ghost use Rattle.terms.specs.Entry.{keep_if, those};
+ghost use Rattle.journal.specs.Journal.{entries_to, put_entries};
 ghost use Rattle.calls.specs.Fold.{stays};
 
 use journal::order::{is_held, is_standing, is_withdrawn};
@@ -21,7 +21,7 @@ fn stays(oldest: u16, e: Entry) -> bool
 // One entry more, if it stays, after `count` others. Answers how many there are then.
 fn put_next(left: &mut [u8], head: Head, oldest: u16, count: u8, e: Entry) -> u8
     requires { count < 255 }
-    ensures { (result ≤ count + 1) × ((area : List ℕ) (es : List Entry) → count ≡ length es → left.old ≡ putEntries area head es → (result ≡ length (keepIf (stays oldest e) e es)) × (left.new ≡ putEntries area head (keepIf (stays oldest e) e es))) }
+    ensures { (result ≤ count + 1) × ((area : List ℕ) (es : List Entry) → count ≡ length es → left.old ≡ put_entries area head es → (result ≡ length (keep_if (stays oldest e) e es)) × (left.new ≡ put_entries area head (keep_if (stays oldest e) e es))) }
 {
     if !stays(oldest, e) {
         return count;
@@ -32,7 +32,7 @@ fn put_next(left: &mut [u8], head: Head, oldest: u16, count: u8, e: Entry) -> u8
 
 // Those of the first m entries of a body.
 pub(crate) fn put_left(left: &mut [u8], head: Head, body: &[u8], m: u8, oldest: u16)
-    ensures { left.new ≡ putEntries left.old head (those (stays oldest) (entriesTo m body.now)) }
+    ensures { left.new ≡ put_entries left.old head (those (stays oldest) (entries_to m body.now)) }
 {
     let mut count: u8 = 0;
     let mut k: u8 = 0;

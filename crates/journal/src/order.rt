@@ -1,9 +1,9 @@
 // Whether an entry may follow those before it.
 ghost use Rattle.std.specs.Prelude.{◌≡◌};
-ghost use Rattle.terms.specs.Entry.{isStanding, isWithdrawn, is_held};
-ghost use Rattle.arithmetic.specs.Powers.{tenTo};
-ghost use Rattle.journal.specs.Sound.{hasRead, isInRange, isRead, isFinalRead};
-ghost use Rattle.journal.specs.Inner.Loops.{standsBy, followsBy};
+ghost use Rattle.terms.specs.Entry.{is_standing, is_withdrawn, is_held};
+ghost use Rattle.arithmetic.specs.Powers.{ten_to};
+ghost use Rattle.journal.specs.Sound.{has_read, is_in_range, is_read, is_final_read};
+ghost use Rattle.journal.specs.Inner.Loops.{stands_by, follows_by};
 
 use register::head::Head;
 use terms::entry::{Entry, Kind};
@@ -12,13 +12,13 @@ use terms::profile::takes;
 use terms::submission::Indicator;
 
 pub fn is_standing(e: Entry) -> bool
-    ensures { result ≡ isStanding e }
+    ensures { result ≡ is_standing e }
 {
     e.kind == Kind::STANDING
 }
 
 pub fn is_withdrawn(e: Entry) -> bool
-    ensures { result ≡ isWithdrawn e }
+    ensures { result ≡ is_withdrawn e }
 {
     e.kind == Kind::WITHDRAWN
 }
@@ -30,20 +30,20 @@ pub fn is_held(e: Entry) -> bool
 }
 
 pub fn is_final(e: Entry) -> bool
-    ensures { result ≡ isFinalRead e }
+    ensures { result ≡ is_final_read e }
 {
     e.letter == Letter::FINAL
 }
 
 pub fn has_read(day: u16, value: u32, e: Entry) -> bool
-    ensures { result ≡ hasRead day value e }
+    ensures { result ≡ has_read day value e }
 {
     (e.day == day) & (e.value == value)
 }
 
 // The ranges of an entry's fields; the limit is 10^n. Most entries pass every test, so that the early returns cost little.
 fn is_in_range(head: Head, limit: u32, e: Entry) -> bool
-    ensures { limit ≡ tenTo head.dials → result ≡ isInRange head e }
+    ensures { limit ≡ ten_to head.dials → result ≡ is_in_range head e }
 {
     if e.day == 0 {
         return false;
@@ -60,7 +60,7 @@ fn is_in_range(head: Head, limit: u32, e: Entry) -> bool
 }
 
 fn is_read(head: Head, limit: u32, e: Entry) -> bool
-    ensures { limit ≡ tenTo head.dials → result ≡ isRead head e }
+    ensures { limit ≡ ten_to head.dials → result ≡ is_read head e }
 {
     if !(is_standing(e) | (is_withdrawn(e) | is_held(e))) {
         return false;
@@ -71,7 +71,7 @@ fn is_read(head: Head, limit: u32, e: Entry) -> bool
 // The first standing read opens the journal, unless a carry does; a later one is later and does not. Whether a read stands, and the day of
 // the last one.
 fn may_stand(head: Head, e: Entry, stands: bool, last: u16) -> bool
-    ensures { result ≡ standsBy head e stands last }
+    ensures { result ≡ stands_by head e stands last }
 {
     if stands {
         return (last < e.day) & !is_opening(e.letter);
@@ -89,7 +89,7 @@ pub fn may_follow(
     held: bool,
     ended: bool,
 ) -> bool
-    ensures { limit ≡ tenTo head.dials → result ≡ followsBy head e stands last held ended }
+    ensures { limit ≡ ten_to head.dials → result ≡ follows_by head e stands last held ended }
 {
     if held {
         return false;

@@ -1,8 +1,8 @@
 // The plate of a meter: its dials and its capacity.
 ghost use Rattle.std.specs.Prelude.{◌&&◌, ◌≡◌, eqb};
-ghost use Rattle.terms.specs.Profile.{meterKind};
+ghost use Rattle.terms.specs.Profile.{meter_kind};
 ghost use Rattle.journal.specs.Plates.{PlatesHold};
-ghost use Rattle.journal.specs.Sound.{isPlate};
+ghost use Rattle.journal.specs.Sound.{is_plate};
 
 use register::head::Head;
 use terms::profile::meter_kind;
@@ -19,14 +19,14 @@ impl Dials {
 
 // Dials and a capacity that a meter may have.
 pub fn is_plate(head: Head) -> bool
-    ensures { result ≡ isPlate head }
+    ensures { result ≡ is_plate head }
 {
     (Dials::LEAST <= head.dials) & ((head.dials <= Dials::MOST) & !(head.capacity == 0))
 }
 
 // A meter's first byte and its head: the kind of its profile, and a plate that it may have.
 pub fn is_meter(kind: u8, head: Head) -> bool
-    ensures { result ≡ eqb kind (meterKind head.profile) && isPlate head }
+    ensures { result ≡ eqb kind (meter_kind head.profile) && is_plate head }
 {
     let profile = head.profile;
     (kind == meter_kind(profile)) & is_plate(head)

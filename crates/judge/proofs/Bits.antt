@@ -7,39 +7,39 @@ use native.Mathlib.Omega.{arith}
 use borrow.Author.Tests.{eqb-true, eq-eqb, not-true}
 use lib.Bits.{bit_or, or_shr, or_mod, or_comm}
 use lib.Pow.{pow_pos, pow-lt}
-use Rattle.terms.specs.Letter.{isKnown, isOpening, isFinal}
-use Rattle.terms.proofs.Below.{all-below, below}
-use Rattle.judge.specs.Inner.Marks.{mark_of, isMarked, markOn}
+use Rattle.terms.specs.Letter.{is_known, is_opening, is_final}
+use Rattle.terms.proofs.Below.{all_below, below}
+use Rattle.judge.specs.Inner.Marks.{mark_of, is_marked, mark_on}
 use Rattle.judge.specs.Inner.Plain.{PlainLetter}
-use Rattle.journal.proofs.Bools.{false-is, both}
+use Rattle.journal.proofs.Bools.{false_is, both}
 
-or-bit : (a b k : ℕ) → bit_or a b / 2 ^ k % 2 ≡ bit_or (a / 2 ^ k % 2) (b / 2 ^ k % 2)
-or-bit a b k = ap (λ (n : ℕ). n % 2) (or_shr a b k) ∙ or_mod (a / 2 ^ k) (b / 2 ^ k) 1
+or_bit : (a b k : ℕ) → bit_or a b / 2 ^ k % 2 ≡ bit_or (a / 2 ^ k % 2) (b / 2 ^ k % 2)
+or_bit a b k = ap (λ (n : ℕ). n % 2) (or_shr a b k) ∙ or_mod (a / 2 ^ k) (b / 2 ^ k) 1
 
-or-one : (y : ℕ) → y < 2 → bit_or 1 y ≡ 1
-or-one zero h = refl
-or-one (suc zero) h = refl
-or-one (suc (suc y)) h = absurd (omega arith)
+or_one : (y : ℕ) → y < 2 → bit_or 1 y ≡ 1
+or_one zero h = refl
+or_one (suc zero) h = refl
+or_one (suc (suc y)) h = absurd (omega arith)
 
-set-left : (a b k : ℕ) → a / 2 ^ k % 2 ≡ 1 → bit_or a b / 2 ^ k % 2 ≡ 1
-set-left a b k h = or-bit a b k ∙ ap (λ (n : ℕ). bit_or n (b / 2 ^ k % 2)) h ∙ or-one (b / 2 ^ k % 2) (mod-lt (b / 2 ^ k) (omega arith))
+set_left : (a b k : ℕ) → a / 2 ^ k % 2 ≡ 1 → bit_or a b / 2 ^ k % 2 ≡ 1
+set_left a b k h = or_bit a b k ∙ ap (λ (n : ℕ). bit_or n (b / 2 ^ k % 2)) h ∙ or_one (b / 2 ^ k % 2) (mod-lt (b / 2 ^ k) (omega arith))
 
-stays-marked : (marks w v : ℕ) → isMarked marks v ≡ true → isMarked (markOn marks w) v ≡ true
-unfolding mark_of markOn
-stays-marked marks w v h = eq-eqb _ _ (set-left marks (2 ^ (w % 64)) (v % 64) (eqb-true _ _ h))
+stays_marked : (marks w v : ℕ) → is_marked marks v ≡ true → is_marked (mark_on marks w) v ≡ true
+unfolding mark_of mark_on
+stays_marked marks w v h = eq-eqb _ _ (set_left marks (2 ^ (w % 64)) (v % 64) (eqb-true _ _ h))
 
-then-marked : (marks v : ℕ) → isMarked (markOn marks v) v ≡ true
-unfolding mark_of markOn
-then-marked marks v =
+then_marked : (marks v : ℕ) → is_marked (mark_on marks v) v ≡ true
+unfolding mark_of mark_on
+then_marked marks v =
     let k = v % 64 in
     let own : 2 ^ k / 2 ^ k % 2 ≡ 1 = ap (λ (n : ℕ). n % 2) (div_self (pow_pos k)) in
-    eq-eqb _ _ (ap (λ (n : ℕ). n / 2 ^ k % 2) (or_comm marks (2 ^ k)) ∙ set-left (2 ^ k) marks k own)
+    eq-eqb _ _ (ap (λ (n : ℕ). n / 2 ^ k % 2) (or_comm marks (2 ^ k)) ∙ set_left (2 ^ k) marks k own)
 
 -- a value with no mark is not the one that marked last, and had none before
-pub unmarked : (marks w v : ℕ) → isMarked (markOn marks w) v ≡ false → (w ≡ v → ⊥) × (isMarked marks v ≡ false)
-unmarked marks w v u = (λ e. false-is (sym u ∙ rw e (then-marked marks v)), cases (isMarked marks v) refl) where
-  cases : (b : Bool) → isMarked marks v ≡ b → isMarked marks v ≡ false
-  cases true e = false-is (sym u ∙ stays-marked marks w v e)
+pub unmarked : (marks w v : ℕ) → is_marked (mark_on marks w) v ≡ false → (w ≡ v → ⊥) × (is_marked marks v ≡ false)
+unmarked marks w v u = (λ e. false_is (sym u ∙ rw e (then_marked marks v)), cases (is_marked marks v) refl) where
+  cases : (b : Bool) → is_marked marks v ≡ b → is_marked marks v ≡ false
+  cases true e = false_is (sym u ∙ stays_marked marks w v e)
   cases false e = e
 
 -- the bit as a shift of 64 bits has it
@@ -50,24 +50,24 @@ bit_shifted v =
 
 -- ---- every letter of the 64 that has a bit is plain: one test over all places
 is_plain : ℕ → Bool
-is_plain l = isKnown l && (not (isOpening l) && not (isFinal l))
+is_plain l = is_known l && (not (is_opening l) && not (is_final l))
 
-plain-there : ℕ → Bool
-plain-there k = not (isMarked 54263848 (64 + k)) || is_plain (64 + k)
+plain_there : ℕ → Bool
+plain_there k = not (is_marked 54263848 (64 + k)) || is_plain (64 + k)
 
-all_plain : all-below 64 plain-there ≡ true
-unfolding all-below plain-there is_plain mark_of isKnown isOpening isFinal
+all_plain : all_below 64 plain_there ≡ true
+unfolding all_below plain_there is_plain mark_of is_known is_opening is_final
 all_plain = refl
 
 one_of : (x y : Bool) → x ≡ true → not x || y ≡ true → y ≡ true
 one_of true y h g = g
-one_of false y h g = false-is h
+one_of false y h g = false_is h
 
-pub plain-letter : (l : ℕ) → 64 ≤ l → l ≤ 127 → isMarked 54263848 l ≡ true → PlainLetter l
-unfolding plain-there is_plain
-plain-letter l from to marked =
+pub plain_letter : (l : ℕ) → 64 ≤ l → l ≤ 127 → is_marked 54263848 l ≡ true → PlainLetter l
+unfolding plain_there is_plain
+plain_letter l from to marked =
     let at : 64 + (l - 64) ≡ l = omega arith in
-    let plain : is_plain l ≡ true = one_of (isMarked 54263848 l) (is_plain l) marked (rw at at (below 64 plain-there all_plain (l - 64) (omega arith))) in
-    let known = both (isKnown l) (not (isOpening l) && not (isFinal l)) plain in
-    let others = both (not (isOpening l)) (not (isFinal l)) known.1 in
-    record { known = known.0; inner = not-true (isOpening l) others.0; unending = not-true (isFinal l) others.1 }
+    let plain : is_plain l ≡ true = one_of (is_marked 54263848 l) (is_plain l) marked (rw at at (below 64 plain_there all_plain (l - 64) (omega arith))) in
+    let known = both (is_known l) (not (is_opening l) && not (is_final l)) plain in
+    let others = both (not (is_opening l)) (not (is_final l)) known.1 in
+    record { known = known.0; inner = not-true (is_opening l) others.0; unending = not-true (is_final l) others.1 }

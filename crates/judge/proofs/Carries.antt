@@ -6,36 +6,36 @@ use Prim.Native.Nat.{ℕ, zero, suc, ◌+◌, ◌-◌, ◌<◌}
 use native.Mathlib.Omega.{arith}
 use Rattle.terms.specs.declared.entry.Entry.{Entry}
 use Rattle.terms.specs.declared.entry.Slot.TheVariants.{Read}
-use Rattle.terms.specs.Entry.{isStanding, keepIf, those}
-use Rattle.register.specs.Entries.{entryStart, entryAt}
-use Rattle.journal.specs.Journal.{entriesTo, standing, oldestOf, dayOf}
-use Rattle.journal.proofs.Entries.{those-more}
+use Rattle.terms.specs.Entry.{is_standing, keep_if, those}
+use Rattle.register.specs.Entries.{entry_start, entry_at}
+use Rattle.journal.specs.Journal.{entries_to, standing, oldest_of, day_of}
+use Rattle.journal.proofs.Entries.{those_more}
 
 -- ---- which read is the oldest does not change with the reads after it
-oldest-kept : (b : Bool) (e : Entry) (ss : List Entry) {oldest : Entry} → oldestOf ss ≡ Read oldest → oldestOf (keepIf b e ss) ≡ Read oldest
-unfolding oldestOf
-oldest-kept false e ss h = h
-oldest-kept true e [] h = absurd (let z : ◌≡◌ {A = ℕ} 0 1 = cc in omega arith)
-oldest-kept true e (s ∷ ss) h = h
+oldest_kept_lem : (b : Bool) (e : Entry) (ss : List Entry) {oldest : Entry} → oldest_of ss ≡ Read oldest → oldest_of (keep_if b e ss) ≡ Read oldest
+unfolding oldest_of
+oldest_kept_lem false e ss h = h
+oldest_kept_lem true e [] h = absurd (let z : ◌≡◌ {A = ℕ} 0 1 = cc in omega arith)
+oldest_kept_lem true e (s ∷ ss) h = h
 
 module _ (a : List ℕ) where
-  oldest-after : (k n : ℕ) {oldest : Entry} → oldestOf (standing (entriesTo k a)) ≡ Read oldest → oldestOf (standing (entriesTo (n + k) a)) ≡ Read oldest
-  unfolding entriesTo those
-  oldest-after k zero h =
+  oldest_after : (k n : ℕ) {oldest : Entry} → oldest_of (standing (entries_to k a)) ≡ Read oldest → oldest_of (standing (entries_to (n + k) a)) ≡ Read oldest
+  unfolding entries_to those
+  oldest_after k zero h =
       let e : zero + k ≡ k = omega arith in
       rw e h
-  oldest-after k (suc n) h =
+  oldest_after k (suc n) h =
       let e : suc n + k ≡ suc (n + k) = omega arith in
-      rw e (oldest-kept (isStanding (entryAt a (entryStart (n + k)))) _ _ (oldest-after k n h))
+      rw e (oldest_kept_lem (is_standing (entry_at a (entry_start (n + k)))) _ _ (oldest_after k n h))
 
   -- ---- the entry after k others, of which none stands
-  module _ (k : ℕ) {e : Entry} {stands : Bool} (read : e ≡ entryAt a (entryStart k)) (is : stands ≡ isStanding e) (none : standing (entriesTo k a) ≡ []) where
-    pub none_yet : stands ≡ false → standing (entriesTo (k + 1) a) ≡ []
-    none_yet h = rw (those-more k a isStanding read is, h, none)
+  module _ (k : ℕ) {e : Entry} {stands : Bool} (read : e ≡ entry_at a (entry_start k)) (is : stands ≡ is_standing e) (none : standing (entries_to k a) ≡ []) where
+    pub none_yet : stands ≡ false → standing (entries_to (k + 1) a) ≡ []
+    none_yet h = rw (those_more k a is_standing read is, h, none)
 
-    pub oldest-is : (m : ℕ) → k < m → stands ≡ true → e.day ≡ dayOf (oldestOf (standing (entriesTo m a)))
-    unfolding oldestOf dayOf
-    oldest-is m l h =
-        let here : oldestOf (standing (entriesTo (k + 1) a)) ≡ Read e = rw (those-more k a isStanding read is, h, none) in
+    pub oldest_is : (m : ℕ) → k < m → stands ≡ true → e.day ≡ day_of (oldest_of (standing (entries_to m a)))
+    unfolding oldest_of day_of
+    oldest_is m l h =
+        let here : oldest_of (standing (entries_to (k + 1) a)) ≡ Read e = rw (those_more k a is_standing read is, h, none) in
         let all : m - (k + 1) + (k + 1) ≡ m = omega arith in
-        rw (rw all at (oldest-after (k + 1) (m - (k + 1)) here))
+        rw (rw all at (oldest_after (k + 1) (m - (k + 1)) here))

@@ -9,109 +9,109 @@ use borrow.Author.Tests.{lt-ltb, le-leb, ne_eqb, eqb-true}
 use lib.Dec.{eqb}
 use lib.ListN.{length}
 use Rattle.terms.specs.declared.entry.Entry.{Entry}
-use Rattle.terms.specs.Entry.{kindWithdrawn, isStanding, isWithdrawn, is_held, keepIf, those, slot_at}
+use Rattle.terms.specs.Entry.{kind_withdrawn, is_standing, is_withdrawn, is_held, keep_if, those, slot_at}
 use Rattle.terms.specs.declared.entry.Slot.TheVariants.{Empty}
 use Rattle.terms.specs.declared.profile.Profile.{Profile}
 use Rattle.terms.specs.declared.profile.Profile.TheVariants.{Ordinary, Pseudo}
-use Rattle.terms.specs.Letter.{isKnown}
+use Rattle.terms.specs.Letter.{is_known}
 use Rattle.terms.specs.Profile.{takes}
 use Rattle.register.specs.declared.head.Head.{Head}
 use Rattle.register.specs.Bytes.{byte_at}
-use Rattle.register.specs.Entries.{entryStart, entryAt}
+use Rattle.register.specs.Entries.{entry_start, entry_at}
 use Rattle.judge.specs.declared.limits.Limits.{Limits}
 use Rattle.judge.specs.declared.run.Run.{Run}
-use Rattle.journal.specs.Journal.{entriesTo, standing, withdrawn, slotIf, held_of, isThere, isFlagged, firstValue, newestAt, dayOf}
-use Rattle.journal.specs.Sound.{any, isFinalRead, holds, isInRange, isRead, hasRead, areInOrder}
-use Rattle.journal.specs.Inner.Loops.{standsBy, followsBy}
-use Rattle.judge.specs.Inner.Run.{lastDay, run_of, ranTo}
-use Rattle.judge.specs.Inner.Plain.{takesAll, IsAll, PlainBody, IsOpen, OneOn, RunsTo}
-use Rattle.judge.proofs.Clashes.{stands-unwithdrawn, withdrawn-unstanding, free-standing, free-withdrawn, stays-apart}
-use Rattle.journal.proofs.Bools.{false-is}
-use Rattle.journal.proofs.Entries.{any-kept, one_more, those-more, length-entries, those-at-most, count-on}
-use Rattle.journal.proofs.InOrder.{in-order-more, by-numbers, days-rise, stands-unheld}
+use Rattle.journal.specs.Journal.{entries_to, standing, withdrawn, slot_if, held_of, is_there, is_flagged, first_value, newest_at, day_of}
+use Rattle.journal.specs.Sound.{any, is_final_read, holds, is_in_range, is_read, has_read, are_in_order}
+use Rattle.journal.specs.Inner.Loops.{stands_by, follows_by}
+use Rattle.judge.specs.Inner.Run.{last_day, run_of, ran_to}
+use Rattle.judge.specs.Inner.Plain.{takes_all, IsAll, PlainBody, IsOpen, OneOn, RunsTo}
+use Rattle.judge.proofs.Clashes.{stands_unwithdrawn, withdrawn_unstanding, free_standing, free_withdrawn, stays_apart}
+use Rattle.journal.proofs.Bools.{false_is}
+use Rattle.journal.proofs.Entries.{any_kept, one_more, those_more, length_entries, those_at_most, count_on}
+use Rattle.journal.proofs.InOrder.{in_order_more, by_numbers, days_rise_lem, stands_unheld}
 
 -- ---- a list with one entry more, if the entry is kept
-length-kept : (b : Bool) (e : Entry) (es : List Entry) → length (keepIf b e es) ≡ cond b (length es + 1) (length es)
-length-kept true e es = rw (add-one (length es))
-length-kept false e es = refl
+length_kept : (b : Bool) (e : Entry) (es : List Entry) → length (keep_if b e es) ≡ cond b (length es + 1) (length es)
+length_kept true e es = rw (add-one (length es))
+length_kept false e es = refl
 
-flagged-kept : (b : Bool) (e : Entry) (es : List Entry) → length (those isFlagged (keepIf b e es)) ≡ cond (b && isFlagged e) (length (those isFlagged es) + 1) (length (those isFlagged es))
+flagged_kept : (b : Bool) (e : Entry) (es : List Entry) → length (those is_flagged (keep_if b e es)) ≡ cond (b && is_flagged e) (length (those is_flagged es) + 1) (length (those is_flagged es))
 unfolding those
-flagged-kept true e es = length-kept (isFlagged e) e (those isFlagged es)
-flagged-kept false e es = refl
+flagged_kept true e es = length_kept (is_flagged e) e (those is_flagged es)
+flagged_kept false e es = refl
 
-pub there-kept : (b : Bool) (e : Entry) (ss : List Entry) → isThere (slot_at (keepIf b e ss) 0) ≡ b || isThere (slot_at ss 0)
-unfolding isThere slot_at
-there-kept true e ss = refl
-there-kept false e ss = refl
+pub there_kept : (b : Bool) (e : Entry) (ss : List Entry) → is_there (slot_at (keep_if b e ss) 0) ≡ b || is_there (slot_at ss 0)
+unfolding is_there slot_at
+there_kept true e ss = refl
+there_kept false e ss = refl
 
-day-kept : (b : Bool) (e : Entry) (ss : List Entry) → dayOf (slot_at (keepIf b e ss) 0) ≡ cond b e.day (dayOf (slot_at ss 0))
-unfolding dayOf slot_at
-day-kept true e ss = refl
-day-kept false e ss = refl
+day_kept : (b : Bool) (e : Entry) (ss : List Entry) → day_of (slot_at (keep_if b e ss) 0) ≡ cond b e.day (day_of (slot_at ss 0))
+unfolding day_of slot_at
+day_kept true e ss = refl
+day_kept false e ss = refl
 
 -- a list that begins with an entry has some
 some : (s : Entry) (ss : List Entry) → eqb (length (s ∷ ss)) 0 ≡ false
 some s ss = ne_eqb (length (s ∷ ss)) 0 (λ z. absurd (omega arith))
 
-first-kept : (b : Bool) (e : Entry) (ss : List Entry) → firstValue (keepIf b e ss) ≡ cond (b && eqb (length ss) 0) e.value (firstValue ss)
-unfolding firstValue
-first-kept true e [] = refl
-first-kept true e (s ∷ ss) = rw (some s ss)
-first-kept false e ss = refl
+first_kept : (b : Bool) (e : Entry) (ss : List Entry) → first_value (keep_if b e ss) ≡ cond (b && eqb (length ss) 0) e.value (first_value ss)
+unfolding first_value
+first_kept true e [] = refl
+first_kept true e (s ∷ ss) = rw (some s ss)
+first_kept false e ss = refl
 
 -- a read stands where their number is not 0
-pub there-counted : (ss : List Entry) → isThere (slot_at ss 0) ≡ not (eqb (length ss) 0)
-unfolding isThere slot_at
-there-counted [] = refl
-there-counted (s ∷ ss) = rw (some s ss)
+pub there_counted : (ss : List Entry) → is_there (slot_at ss 0) ≡ not (eqb (length ss) 0)
+unfolding is_there slot_at
+there_counted [] = refl
+there_counted (s ∷ ss) = rw (some s ss)
 
-pub held-there : (b : Bool) (e : Entry) → isThere (slotIf b e Empty) ≡ b
-unfolding isThere
-held-there true e = refl
-held-there false e = refl
+pub held_there : (b : Bool) (e : Entry) → is_there (slot_if b e Empty) ≡ b
+unfolding is_there
+held_there true e = refl
+held_there false e = refl
 
 -- ---- what is kept
 pub run_more : (e : Entry) (es : List Entry) → run_of (e ∷ es) ≡ record {
-  first = cond (isStanding e && eqb (run_of es).standing 0) e.value (run_of es).first;
-  day = cond (isStanding e) e.day (run_of es).day;
+  first = cond (is_standing e && eqb (run_of es).standing 0) e.value (run_of es).first;
+  day = cond (is_standing e) e.day (run_of es).day;
   count = (run_of es).count + 1;
-  standing = cond (isStanding e) ((run_of es).standing + 1) (run_of es).standing;
-  flagged = cond (isStanding e && isFlagged e) ((run_of es).flagged + 1) (run_of es).flagged;
-  newest = cond (isStanding e) (run_of es).count (run_of es).newest;
+  standing = cond (is_standing e) ((run_of es).standing + 1) (run_of es).standing;
+  flagged = cond (is_standing e && is_flagged e) ((run_of es).flagged + 1) (run_of es).flagged;
+  newest = cond (is_standing e) (run_of es).count (run_of es).newest;
 }
-unfolding run_of those newestAt
-run_more e es = simp (length-kept, flagged-kept, first-kept, day-kept, ← add-one)
+unfolding run_of those newest_at
+run_more e es = simp (length_kept, flagged_kept, first_kept, day_kept, ← add-one)
 
 -- no count is more than that of the entries
-pub run_small : (run : Run) (k : ℕ) (a : List ℕ) → run ≡ run_of (entriesTo k a) → (run.count ≡ k) × (run.standing ≤ run.count) × (run.flagged ≤ run.standing)
+pub run_small : (run : Run) (k : ℕ) (a : List ℕ) → run ≡ run_of (entries_to k a) → (run.count ≡ k) × (run.standing ≤ run.count) × (run.flagged ≤ run.standing)
 unfolding run_of
 run_small run k a is =
-    let es = entriesTo k a in
-    rw is (length-entries k a, omega (arith, those-at-most isStanding es), omega (arith, those-at-most isFlagged (standing es)))
+    let es = entries_to k a in
+    rw is (length_entries k a, omega (arith, those_at_most is_standing es), omega (arith, those_at_most is_flagged (standing es)))
 
-pub run-day : {run : Run} (es : List Entry) → run ≡ run_of es → run.day ≡ lastDay es
+pub run_day : {run : Run} (es : List Entry) → run ≡ run_of es → run.day ≡ last_day es
 unfolding run_of
-run-day es is = ap (λ (r : Run). r.day) is
+run_day es is = ap (λ (r : Run). r.day) is
 
 -- ---- a plain body may follow where a read stands and none is held
-withdrawn-unheld : (e : Entry) → isWithdrawn e ≡ true → is_held e ≡ false
-unfolding isWithdrawn is_held
-withdrawn-unheld e h = rw (eqb-true e.kind kindWithdrawn h)
+withdrawn_unheld : (e : Entry) → is_withdrawn e ≡ true → is_held e ≡ false
+unfolding is_withdrawn is_held
+withdrawn_unheld e h = rw (eqb-true e.kind kind_withdrawn h)
 
 -- a meter that takes every type takes each that is known
-pub takes-known : (p : Profile) (l : ℕ) → takesAll p ≡ true → isKnown l ≡ true → takes p l ≡ true
-unfolding takesAll takes
-takes-known Ordinary l all known = known
-takes-known Pseudo l all known = false-is all
+pub takes_known : (p : Profile) (l : ℕ) → takes_all p ≡ true → is_known l ≡ true → takes p l ≡ true
+unfolding takes_all takes
+takes_known Ordinary l all known = known
+takes_known Pseudo l all known = false_is all
 
 module _ {head : Head} {l : Limits} {last : ℕ} {e : Entry} (is : IsAll head l) (b : PlainBody l last e) where
   taken : takes head.profile e.letter ≡ true
-  taken = takes-known head.profile e.letter is.all b.letter.known
+  taken = takes_known head.profile e.letter is.all b.letter.known
 
-  range-is : isInRange head e ≡ true
-  unfolding isInRange holds
-  range-is =
+  range_is : is_in_range head e ≡ true
+  unfolding is_in_range holds
+  range_is =
       let d : e.day ≡ 0 → ⊥ = λ h. omega (arith, b.later) in
       rw (
         ne_eqb e.day 0 d,
@@ -123,126 +123,126 @@ module _ {head : Head} {l : Limits} {last : ℕ} {e : Entry} (is : IsAll head l)
         b.flag,
       )
 
-  follows-standing : (ended : Bool) → isStanding e ≡ true → followsBy head e true last false ended ≡ true
-  unfolding followsBy standsBy isRead
-  follows-standing ended s = rw (s, range-is, b.letter.inner, b.letter.unending, lt-ltb last e.day b.later)
+  follows_standing : (ended : Bool) → is_standing e ≡ true → follows_by head e true last false ended ≡ true
+  unfolding follows_by stands_by is_read
+  follows_standing ended s = rw (s, range_is, b.letter.inner, b.letter.unending, lt-ltb last e.day b.later)
 
-  follows-withdrawn : (ended : Bool) → isWithdrawn e ≡ true → followsBy head e true last false ended ≡ true
-  unfolding followsBy isRead
-  follows-withdrawn ended w = rw (withdrawn-unstanding e w, w, withdrawn-unheld e w, range-is)
+  follows_withdrawn : (ended : Bool) → is_withdrawn e ≡ true → follows_by head e true last false ended ≡ true
+  unfolding follows_by is_read
+  follows_withdrawn ended w = rw (withdrawn_unstanding e w, w, withdrawn_unheld e w, range_is)
 
-module _ {head : Head} {l : Limits} {e : Entry} {ended clear : Bool} (es : List Entry) (is : IsAll head l) (b : PlainBody l (lastDay es) e) (op : IsOpen head ended clear es) where
-  order-more : followsBy head e true (lastDay es) false (any isFinalRead (standing es)) ≡ true → areInOrder head (e ∷ es) ≡ true
-  order-more follows = rw (in-order-more, by-numbers, op.stands, op.unheld, follows) op.ordered
+module _ {head : Head} {l : Limits} {e : Entry} {ended clear : Bool} (es : List Entry) (is : IsAll head l) (b : PlainBody l (last_day es) e) (op : IsOpen head ended clear es) where
+  order_more : follows_by head e true (last_day es) false (any is_final_read (standing es)) ≡ true → are_in_order head (e ∷ es) ≡ true
+  order_more follows = rw (in_order_more, by_numbers, op.stands, op.unheld, follows) op.ordered
 
-  open-standing : isStanding e ≡ true → any (hasRead e.day e.value) (withdrawn es) ≡ false → IsOpen head ended clear (e ∷ es)
+  open_standing : is_standing e ≡ true → any (has_read e.day e.value) (withdrawn es) ≡ false → IsOpen head ended clear (e ∷ es)
   unfolding those held_of
-  open-standing s none =
+  open_standing s none =
       record {
-        ordered = order-more (follows-standing is b (any isFinalRead (standing es)) s);
-        stands = rw (s, there-kept);
-        unheld = rw (held-there, stands-unheld e s);
-        ended_is = rw (s, any-kept, b.letter.unending) op.ended_is;
-        apart = λ c. stays-apart e es (free-standing e es s none) (op.apart c);
+        ordered = order_more (follows_standing is b (any is_final_read (standing es)) s);
+        stands = rw (s, there_kept);
+        unheld = rw (held_there, stands_unheld e s);
+        ended_is = rw (s, any_kept, b.letter.unending) op.ended_is;
+        apart = λ c. stays_apart e es (free_standing e es s none) (op.apart c);
       }
 
-  open-withdrawn : isWithdrawn e ≡ true → IsOpen head ended clear (e ∷ es)
+  open_withdrawn : is_withdrawn e ≡ true → IsOpen head ended clear (e ∷ es)
   unfolding those held_of
-  open-withdrawn w =
-      let s = withdrawn-unstanding e w in
+  open_withdrawn w =
+      let s = withdrawn_unstanding e w in
       record {
-        ordered = order-more (follows-withdrawn is b (any isFinalRead (standing es)) w);
+        ordered = order_more (follows_withdrawn is b (any is_final_read (standing es)) w);
         stands = rw s op.stands;
-        unheld = rw (held-there, withdrawn-unheld e w);
+        unheld = rw (held_there, withdrawn_unheld e w);
         ended_is = rw s op.ended_is;
-        apart = λ c. stays-apart e es (free-withdrawn e es w (days-rise head es op.ordered) b.later) (op.apart c);
+        apart = λ c. stays_apart e es (free_withdrawn e es w (days_rise_lem head es op.ordered) b.later) (op.apart c);
       }
 
 -- ---- one entry more in a run
 module _ {l : Limits} (es : List Entry) {run : Run} (e : Entry) {r : Run} (b : PlainBody l run.day e) (one : r.count ≡ run.count + 1) (more : run ≡ run_of es → r ≡ run_of (e ∷ es)) where
-  body_of : run ≡ run_of es → PlainBody l (lastDay es) e
+  body_of : run ≡ run_of es → PlainBody l (last_day es) e
   unfolding run_of
   body_of h = rw h at b
 
-  stand-one : isStanding e ≡ true → any (hasRead e.day e.value) (withdrawn es) ≡ false → OneOn l es run e r
-  unfolding isStanding
-  stand-one s none =
+  stand_one : is_standing e ≡ true → any (has_read e.day e.value) (withdrawn es) ≡ false → OneOn l es run e r
+  unfolding is_standing
+  stand_one s none =
       record {
         count = one;
         kind = λ z. (let k : e.kind ≡ 2 = eqb-true _ _ s in omega arith);
         run_is = more;
-        opened = λ head ended clear is h op. open-standing es is (body_of h) op s none;
+        opened = λ head ended clear is h op. open_standing es is (body_of h) op s none;
       }
 
-  withdraw-one : isWithdrawn e ≡ true → OneOn l es run e r
-  unfolding isWithdrawn
-  withdraw-one w =
+  withdraw_one : is_withdrawn e ≡ true → OneOn l es run e r
+  unfolding is_withdrawn
+  withdraw_one w =
       record {
         count = one;
         kind = λ z. (let k : e.kind ≡ 3 = eqb-true _ _ w in omega arith);
         run_is = more;
-        opened = λ head ended clear is h op. open-withdrawn es is (body_of h) op w;
+        opened = λ head ended clear is h op. open_withdrawn es is (body_of h) op w;
       }
 
 -- ---- runs
-pub runs_none : (body : List ℕ) (l : Limits) (run : Run) → run ≡ run_of (entriesTo run.count body) → run.count ≤ l.most → RunsTo body l run run
+pub runs_none : (body : List ℕ) (l : Limits) (run : Run) → run ≡ run_of (entries_to run.count body) → run.count ≤ l.most → RunsTo body l run run
 runs_none body l run is few = record { more = omega arith; few = few; goes = refl; run_is = is; opened = λ head ended clear limits op. op }
 
-pub runs-one : {body : List ℕ} {l : Limits} {from run r : Run} {e : Entry} → RunsTo body l from run → run.count < l.most → e ≡ entryAt body (entryStart run.count) → OneOn l (entriesTo run.count body) run e r → RunsTo body l from r
-unfolding entryAt
-runs-one {body} {l} {from} {run} {r} {e} runs h read one =
-    let es = entriesTo run.count body in
+pub runs_one : {body : List ℕ} {l : Limits} {from run r : Run} {e : Entry} → RunsTo body l from run → run.count < l.most → e ≡ entry_at body (entry_start run.count) → OneOn l (entries_to run.count body) run e r → RunsTo body l from r
+unfolding entry_at
+runs_one {body} {l} {from} {run} {r} {e} runs h read one =
+    let es = entries_to run.count body in
     let n = one.count in
-    let on : entriesTo r.count body ≡ e ∷ es = rw (n, one_more run.count body, ← read) in
-    let some : byte_at body (entryStart run.count) ≡ 0 → ⊥ = λ z. one.kind (rw read z) in
+    let on : entries_to r.count body ≡ e ∷ es = rw (n, one_more run.count body, ← read) in
+    let some : byte_at body (entry_start run.count) ≡ 0 → ⊥ = λ z. one.kind (rw read z) in
     record {
       more = omega (arith, runs.more);
       few = omega arith;
-      goes = runs.goes ∙ rw n (count-on l.most run.count body h some);
+      goes = runs.goes ∙ rw n (count_on l.most run.count body h some);
       run_is = rw on (one.run_is runs.run_is);
       opened = λ head ended clear limits op. rw on (one.opened head ended clear limits runs.run_is (runs.opened head ended clear limits op));
     }
 
 -- ---- a run over plain entries, with one more
 module _ {l : Limits} (es : List Entry) (e : Entry) (from : Run) (k day newest standing : ℕ) (b : PlainBody l day e) where
-  pub ran-standing : isStanding e ≡ true → (standing ≡ 0 → ⊥) → any (hasRead e.day e.value) (withdrawn es) ≡ false → OneOn l es (ranTo from k day newest standing) e (ranTo from (k + 1) e.day k (standing + 1))
-  unfolding ranTo isFlagged
-  ran-standing s some none = stand-one es e b refl (λ h. rw (run_more, ← h, s, b.flag, ne_eqb standing 0 some)) s none
+  pub ran_standing : is_standing e ≡ true → (standing ≡ 0 → ⊥) → any (has_read e.day e.value) (withdrawn es) ≡ false → OneOn l es (ran_to from k day newest standing) e (ran_to from (k + 1) e.day k (standing + 1))
+  unfolding ran_to is_flagged
+  ran_standing s some none = stand_one es e b refl (λ h. rw (run_more, ← h, s, b.flag, ne_eqb standing 0 some)) s none
 
-  pub ran-withdrawn : isWithdrawn e ≡ true → OneOn l es (ranTo from k day newest standing) e (ranTo from (k + 1) day newest standing)
-  unfolding ranTo
-  ran-withdrawn w = withdraw-one es e b refl (λ h. rw (run_more, ← h, withdrawn-unstanding e w)) w
+  pub ran_withdrawn : is_withdrawn e ≡ true → OneOn l es (ran_to from k day newest standing) e (ran_to from (k + 1) day newest standing)
+  unfolding ran_to
+  ran_withdrawn w = withdraw_one es e b refl (λ h. rw (run_more, ← h, withdrawn_unstanding e w)) w
 
-pub ran-start : (from : Run) → ranTo from from.count from.day from.newest from.standing ≡ from
-unfolding ranTo
-ran-start from = refl
+pub ran_start : (from : Run) → ran_to from from.count from.day from.newest from.standing ≡ from
+unfolding ran_to
+ran_start from = refl
 
 -- ---- entries that all stand
-pub all-standing : (es : List Entry) → length (standing es) ≡ length es → (withdrawn es ≡ []) × (newestAt es ≡ length es - 1)
-unfolding those newestAt
-all-standing [] h = (refl, refl)
-all-standing (e ∷ es) h = cases (all-standing es) (isStanding e) refl where
-  cases : (length (standing es) ≡ length es → (withdrawn es ≡ []) × (newestAt es ≡ length es - 1)) → (b : Bool) → isStanding e ≡ b → (withdrawn (e ∷ es) ≡ []) × (newestAt (e ∷ es) ≡ suc (length es) - 1)
+pub all_standing : (es : List Entry) → length (standing es) ≡ length es → (withdrawn es ≡ []) × (newest_at es ≡ length es - 1)
+unfolding those newest_at
+all_standing [] h = (refl, refl)
+all_standing (e ∷ es) h = cases (all_standing es) (is_standing e) refl where
+  cases : (length (standing es) ≡ length es → (withdrawn es ≡ []) × (newest_at es ≡ length es - 1)) → (b : Bool) → is_standing e ≡ b → (withdrawn (e ∷ es) ≡ []) × (newest_at (e ∷ es) ≡ suc (length es) - 1)
   cases rest true s =
       let less : length (standing es) ≡ length es = omega (arith, rw s at h) in
       let last : suc (length es) - 1 ≡ length es = omega arith in
-      rw (s, stands-unwithdrawn e s, last) ((rest less).0, refl)
-  cases rest false s = absurd (omega (arith, rw s at h, those-at-most isStanding es))
+      rw (s, stands_unwithdrawn e s, last) ((rest less).0, refl)
+  cases rest false s = absurd (omega (arith, rw s at h, those_at_most is_standing es))
 
-pub all-run : (from : Run) (es : List Entry) → from ≡ run_of es → from.standing ≡ from.count → (withdrawn es ≡ []) × (from.newest ≡ from.count - 1)
+pub all_run : (from : Run) (es : List Entry) → from ≡ run_of es → from.standing ≡ from.count → (withdrawn es ≡ []) × (from.newest ≡ from.count - 1)
 unfolding run_of
-all-run from es is all =
+all_run from es is all =
     let same : length (standing es) ≡ length es = rw is at all in
-    let stand = all-standing es same in
+    let stand = all_standing es same in
     (stand.0, rw is stand.1)
 
-pub plain-start : (from : Run) → from.standing ≡ from.count → from.newest ≡ from.count - 1 → ranTo from from.count from.day (from.count - 1) from.count ≡ from
-unfolding ranTo
-plain-start from all newest = rw (← newest, ← all)
+pub plain_start : (from : Run) → from.standing ≡ from.count → from.newest ≡ from.count - 1 → ran_to from from.count from.day (from.count - 1) from.count ≡ from
+unfolding ran_to
+plain_start from all newest = rw (← newest, ← all)
 
-pub none-withdrawn : (day value : ℕ) (es : List Entry) → withdrawn es ≡ [] → any (hasRead day value) (withdrawn es) ≡ false
+pub none_withdrawn : (day value : ℕ) (es : List Entry) → withdrawn es ≡ [] → any (has_read day value) (withdrawn es) ≡ false
 unfolding any
-none-withdrawn day value es none = rw none
+none_withdrawn day value es none = rw none
 
-pub withdrawn-still : (k : ℕ) (a : List ℕ) {e : Entry} → e ≡ entryAt a (entryStart k) → isWithdrawn e ≡ false → withdrawn (entriesTo (k + 1) a) ≡ withdrawn (entriesTo k a)
-withdrawn-still k a read stays = those-more k a isWithdrawn read (sym stays)
+pub withdrawn_still : (k : ℕ) (a : List ℕ) {e : Entry} → e ≡ entry_at a (entry_start k) → is_withdrawn e ≡ false → withdrawn (entries_to (k + 1) a) ≡ withdrawn (entries_to k a)
+withdrawn_still k a read stays = those_more k a is_withdrawn read (sym stays)

@@ -1,14 +1,14 @@
 // What an area is: all zero, damaged, or sound with what is counted of its entries.
 ghost use Rattle.std.specs.Prelude.{◌≡◌, true, false, cond, ◌-◌, ◌≤◌, ◌<◌, length};
-ghost use Rattle.arithmetic.specs.Powers.{tenTo};
+ghost use Rattle.arithmetic.specs.Powers.{ten_to};
 ghost use Rattle.terms.specs.Entry.{slot_at};
-ghost use Rattle.register.specs.Area.{area_bytes, allZero};
+ghost use Rattle.register.specs.Area.{area_bytes, all_zero};
 ghost use Rattle.register.specs.declared.head.Head.{Head};
-ghost use Rattle.register.specs.Entries.{entryStart};
-ghost use Rattle.register.specs.Head.{head_of, mostEntries, body_of};
-ghost use Rattle.journal.specs.Journal.{entriesTo, standing};
-ghost use Rattle.journal.specs.Sound.{isHead};
-ghost use Rattle.judge.specs.Inner.Judged.{value_of, summaryOf, judged, isWhole, judgedBody, Judges, Answers};
+ghost use Rattle.register.specs.Entries.{entry_start};
+ghost use Rattle.register.specs.Head.{head_of, most_entries, body_of};
+ghost use Rattle.journal.specs.Journal.{entries_to, standing};
+ghost use Rattle.journal.specs.Sound.{is_head};
+ghost use Rattle.judge.specs.Inner.Judged.{value_of, summary_of, judged, is_whole, judged_body, Judges, Answers};
 ghost use Rattle.judge.specs.Inner.Run.{run_of};
 ghost use Rattle.judge.specs.Inner.Pass.{IsPass, IsPassed};
 
@@ -68,8 +68,8 @@ pub struct Judgement {
 
 // The value of the last standing read.
 fn last_value(body: &[u8], run: Run) -> u32
-    requires { (entryStart run.count ≤ length body.now) × (run ≡ run_of (entriesTo run.count body.now)) }
-    ensures { result ≡ value_of (slot_at (standing (entriesTo run.count body.now)) 0) }
+    requires { (entry_start run.count ≤ length body.now) × (run ≡ run_of (entries_to run.count body.now)) }
+    ensures { result ≡ value_of (slot_at (standing (entries_to run.count body.now)) 0) }
 {
     if run.standing == 0 {
         return 0;
@@ -91,8 +91,8 @@ fn kept_of(count: u8, held: bool) -> u8
 
 // What is counted, once all entries are passed.
 fn summary_of(body: &[u8], head: Head, limit: u32, pass: Pass) -> Summary
-    requires { (entryStart pass.run.count ≤ length body.now) × (pass.run ≡ run_of (entriesTo pass.run.count body.now)) × (pass.held ≡ true → 0 < pass.run.count) }
-    ensures { limit ≡ tenTo head.dials → IsPass head body.now pass → result ≡ summaryOf (record { head = head; entries = entriesTo pass.run.count body.now }) }
+    requires { (entry_start pass.run.count ≤ length body.now) × (pass.run ≡ run_of (entries_to pass.run.count body.now)) × (pass.held ≡ true → 0 < pass.run.count) }
+    ensures { limit ≡ ten_to head.dials → IsPass head body.now pass → result ≡ summary_of (record { head = head; entries = entries_to pass.run.count body.now }) }
 {
     let run = pass.run;
     let kept = kept_of(run.count, pass.held);
@@ -116,7 +116,7 @@ fn summary_of(body: &[u8], head: Head, limit: u32, pass: Pass) -> Summary
 
 fn is_head(area: &[u8], head: Head) -> bool
     requires { (length area.now ≡ area_bytes) × (head ≡ head_of area.now) }
-    ensures { result ≡ isHead area.now }
+    ensures { result ≡ is_head area.now }
 {
     is_meter(area[0], head)
 }
@@ -133,8 +133,8 @@ fn no_journal(found: Judged) -> Judgement
 
 // The entries that were passed are sound, and zeros follow them.
 fn is_whole(body: &[u8], head: Head, limit: u32, pass: Pass) -> bool
-    requires { (entryStart (mostEntries head) ≤ length body.now) × (limit ≡ tenTo head.dials) × IsPassed head body.now pass }
-    ensures { result ≡ isWhole head body.now }
+    requires { (entry_start (most_entries head) ≤ length body.now) × (limit ≡ ten_to head.dials) × IsPassed head body.now pass }
+    ensures { result ≡ is_whole head body.now }
 {
     if !pass.ordered {
         return false;
@@ -151,8 +151,8 @@ fn is_whole(body: &[u8], head: Head, limit: u32, pass: Pass) -> bool
 
 // The entries that follow a head.
 fn judge_body(body: &[u8], head: Head, day: u16, value: u32) -> Judgement
-    requires { entryStart (mostEntries head) ≤ length body.now }
-    ensures { Answers (judgedBody head body.now) body.now day value result }
+    requires { entry_start (most_entries head) ≤ length body.now }
+    ensures { Answers (judged_body head body.now) body.now day value result }
 {
     let limits = limits_of(head);
     let passed = pass_over(body, head, limits, day, value);
@@ -169,7 +169,7 @@ fn judge_body(body: &[u8], head: Head, day: u16, value: u32) -> Judgement
 
 // An area of 512 bytes that are not all zero.
 fn judge_journal(area: &[u8], day: u16, value: u32) -> Judgement
-    requires { (length area.now ≡ area_bytes) × (allZero area.now ≡ false) }
+    requires { (length area.now ≡ area_bytes) × (all_zero area.now ≡ false) }
     ensures { Answers (judged area.now) (body_of area.now) day value result }
 {
     let head = head_of(area);

@@ -1,11 +1,11 @@
 // Standing reads apart from withdrawn ones. Standing days rise, so that halving finds the only one that a withdrawn read has to be compared
 // with.
 ghost use Rattle.std.specs.Prelude.{◌≡◌, true, ◌&&◌, ◌≤◌, length};
-ghost use Rattle.terms.specs.Entry.{isWithdrawn, slot_at};
-ghost use Rattle.register.specs.Entries.{entryStart};
-ghost use Rattle.journal.specs.Journal.{entriesTo, standing, withdrawn, dayOf};
-ghost use Rattle.journal.specs.Sound.{any, hasRead, daysRise, areApart};
-ghost use Rattle.judge.specs.Inner.Halving.{placed, Places, Inside, Between, valueMarks};
+ghost use Rattle.terms.specs.Entry.{is_withdrawn, slot_at};
+ghost use Rattle.register.specs.Entries.{entry_start};
+ghost use Rattle.journal.specs.Journal.{entries_to, standing, withdrawn, day_of};
+ghost use Rattle.journal.specs.Sound.{any, has_read, days_rise, are_apart};
+ghost use Rattle.judge.specs.Inner.Halving.{placed, Places, Inside, Between, value_marks};
 
 use crate::marks::{is_marked, mark};
 use crate::read::{entry_at, long_at, word_at};
@@ -23,7 +23,7 @@ impl Room {
 
 // Notes where the standing ones among the first m entries are, in their order, and says how many.
 fn note_standing(body: &[u8], m: u8, places: &mut [u8; Room::PLACES]) -> u8
-    requires m_in_bounds { entryStart m ≤ length body.now }
+    requires m_in_bounds { entry_start m ≤ length body.now }
     requires m_in_bounds_2 { m ≤ length places.old }
     ensures { Places body.now m places.new result }
 {
@@ -43,7 +43,7 @@ fn note_standing(body: &[u8], m: u8, places: &mut [u8; Room::PLACES]) -> u8
 // A mark for the value of each entry at n places.
 fn marks_over(body: &[u8], places: &[u8; Room::PLACES], n: u8) -> u64
     requires { Inside body.now places.now n }
-    ensures { result ≡ valueMarks (placed body.now places.now n) }
+    ensures { result ≡ value_marks (placed body.now places.now n) }
 {
     let mut marks: u64 = 0;
     let mut i: u8 = 0;
@@ -79,8 +79,8 @@ fn first_from(body: &[u8], places: &[u8; Room::PLACES], n: u8, day: u16) -> u8
 // One of the entries at n places has this day and value. Only the first one from the day on can be of that day.
 fn is_placed(body: &[u8], places: &[u8; Room::PLACES], n: u8, day: u16, value: u32) -> bool
     requires inside { Inside body.now places.now n }
-    requires n_value { daysRise (placed body.now places.now n) ≡ true }
-    ensures { result ≡ any (hasRead day value) (placed body.now places.now n) }
+    requires n_value { days_rise (placed body.now places.now n) ≡ true }
+    ensures { result ≡ any (has_read day value) (placed body.now places.now n) }
 {
     let i = first_from(body, places, n, day);
     if i == n {
@@ -100,10 +100,10 @@ fn stands_again(
     e: Entry,
 ) -> bool
     requires inside { Inside body.now places.now n }
-    requires n_value { daysRise (placed body.now places.now n) ≡ true }
-    requires last_value { last ≡ dayOf (slot_at (placed body.now places.now n) 0) }
-    requires marks_value { marks ≡ valueMarks (placed body.now places.now n) }
-    ensures { result ≡ isWithdrawn e && any (hasRead e.day e.value) (placed body.now places.now n) }
+    requires n_value { days_rise (placed body.now places.now n) ≡ true }
+    requires last_value { last ≡ day_of (slot_at (placed body.now places.now n) 0) }
+    requires marks_value { marks ≡ value_marks (placed body.now places.now n) }
+    ensures { result ≡ is_withdrawn e && any (has_read e.day e.value) (placed body.now places.now n) }
 {
     if !is_withdrawn(e) {
         return false;
@@ -119,10 +119,10 @@ fn stands_again(
 
 // No standing read has both the day and the value of a withdrawn one. The caller knows the day of the last standing one, and that days rise.
 pub(crate) fn are_apart(body: &[u8], m: u8, last: u16) -> bool
-    requires m_in_bounds { entryStart m ≤ length body.now }
-    requires last_value { last ≡ dayOf (slot_at (standing (entriesTo m body.now)) 0) }
-    requires body_value { daysRise (standing (entriesTo m body.now)) ≡ true }
-    ensures { result ≡ areApart (standing (entriesTo m body.now)) (withdrawn (entriesTo m body.now)) }
+    requires m_in_bounds { entry_start m ≤ length body.now }
+    requires last_value { last ≡ day_of (slot_at (standing (entries_to m body.now)) 0) }
+    requires body_value { days_rise (standing (entries_to m body.now)) ≡ true }
+    ensures { result ≡ are_apart (standing (entries_to m body.now)) (withdrawn (entries_to m body.now)) }
 {
     let mut places = [0; Room::PLACES];
     let n = note_standing(body, m, &mut places);

@@ -1,10 +1,10 @@
 // An index of the withdrawn reads by day and value, so that a read is told apart from them by a look at one bucket. A bucket has 0 where
 // nothing was put into it, the position of the one entry that was, counted from 1, or `CROWDED`.
 ghost use Rattle.std.specs.Prelude.{◌≡◌, true, ◌≤◌, ◌<◌, length};
-ghost use Rattle.register.specs.Entries.{entryStart};
-ghost use Rattle.journal.specs.Journal.{entriesTo, withdrawn};
-ghost use Rattle.journal.specs.Sound.{any, hasRead};
-ghost use Rattle.judge.specs.Inner.Index.{bucketOf, bucketFor, crowded, put_in, Indexed, Clear};
+ghost use Rattle.register.specs.Entries.{entry_start};
+ghost use Rattle.journal.specs.Journal.{entries_to, withdrawn};
+ghost use Rattle.journal.specs.Sound.{any, has_read};
+ghost use Rattle.judge.specs.Inner.Index.{bucket_of, bucket_for, crowded, put_in, Indexed, Clear};
 
 use crate::read::entry_at;
 use journal::order::{has_read, is_withdrawn};
@@ -21,7 +21,7 @@ impl Index {
 
 // The bucket of a read.
 pub fn bucket_of(day: u16, value: u32) -> u8
-    ensures { result ≡ bucketOf day value }
+    ensures { result ≡ bucket_of day value }
 {
     ((day as u32 + value % 256) % 256) as u8
 }
@@ -29,7 +29,7 @@ pub fn bucket_of(day: u16, value: u32) -> u8
 // Puts the entry after k others into its bucket.
 pub(crate) fn put(index: &mut [u8; Index::BUCKETS], k: u8, e: Entry)
     requires { k < crowded }
-    ensures { index.new ≡ put_in index.old (bucketFor e) k }
+    ensures { index.new ≡ put_in index.old (bucket_for e) k }
 {
     let at = bucket_of(e.day, e.value) as usize;
     if index[at] == 0 {
@@ -41,7 +41,7 @@ pub(crate) fn put(index: &mut [u8; Index::BUCKETS], k: u8, e: Entry)
 
 // What the bucket of an entry has is no other of its day and value. Where it is crowded, nobody knows.
 pub(crate) fn is_clear(body: &[u8], k: u8, there: u8, e: Entry) -> bool
-    requires { (entryStart k ≤ length body.now) × (k < crowded) }
+    requires { (entry_start k ≤ length body.now) × (k < crowded) }
     ensures { result ≡ true → Clear body.now there e.day e.value }
 {
     if there == 0 {
@@ -55,8 +55,8 @@ pub(crate) fn is_clear(body: &[u8], k: u8, there: u8, e: Entry) -> bool
 
 // One of the first m entries is withdrawn with this day and value.
 fn is_among(body: &[u8], m: u8, day: u16, value: u32) -> bool
-    requires { entryStart m ≤ length body.now }
-    ensures { result ≡ any (hasRead day value) (withdrawn (entriesTo m body.now)) }
+    requires { entry_start m ≤ length body.now }
+    ensures { result ≡ any (has_read day value) (withdrawn (entries_to m body.now)) }
 {
     let mut found = false;
     let mut k: u8 = 0;
@@ -76,8 +76,8 @@ pub(crate) fn has_withdrawn(
     day: u16,
     value: u32,
 ) -> bool
-    requires { (entryStart m ≤ length body.now) × (m < crowded) × Indexed body.now m index.now }
-    ensures { result ≡ any (hasRead day value) (withdrawn (entriesTo m body.now)) }
+    requires { (entry_start m ≤ length body.now) × (m < crowded) × Indexed body.now m index.now }
+    ensures { result ≡ any (has_read day value) (withdrawn (entries_to m body.now)) }
 {
     let at = bucket_of(day, value) as usize;
     let there = index[at];

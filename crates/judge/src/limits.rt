@@ -1,6 +1,6 @@
 // What the loops over entries need of a meter.
 ghost use Rattle.std.specs.Prelude.{◌≡◌};
-ghost use Rattle.judge.specs.Inner.Plain.{takesAll, IsLimits};
+ghost use Rattle.judge.specs.Inner.Plain.{takes_all, IsLimits};
 
 use arithmetic::powers::power;
 use register::head::{Head, most_entries};
@@ -25,7 +25,7 @@ pub(crate) fn limits_of(head: Head) -> Limits
 
 // The meter takes reads of every type. The short ways are for such meters: of another's reads no more than two can stand.
 pub(crate) fn takes_all(profile: Profile) -> bool
-    ensures { result ≡ takesAll profile }
+    ensures { result ≡ takes_all profile }
 {
     match profile {
         Profile::Ordinary => true,

@@ -1,9 +1,9 @@
 // How a journal opens: with the read that opens it and the plain standing ones that follow it, which many journals are all of.
 ghost use Rattle.std.specs.Prelude.{◌≡◌, true, [], ◌≤◌, length};
 ghost use Rattle.register.specs.declared.head.Head.{Head};
-ghost use Rattle.register.specs.Entries.{entryStart};
+ghost use Rattle.register.specs.Entries.{entry_start};
 ghost use Rattle.judge.specs.Inner.Run.{run_of};
-ghost use Rattle.judge.specs.Inner.Pass.{passOf, First, Starts};
+ghost use Rattle.judge.specs.Inner.Pass.{pass_of, First, Starts};
 
 use crate::limits::{Limits, takes_all};
 use crate::pass::Pass;
@@ -15,7 +15,7 @@ use terms::entry::Entry;
 use terms::letter::is_opening;
 
 fn start_pass() -> Pass
-    ensures { (result.run ≡ run_of []) × ((head : Head) → result ≡ passOf head result.apart []) }
+    ensures { (result.run ≡ run_of []) × ((head : Head) → result ≡ pass_of head result.apart []) }
 {
     let run = start_run();
     Pass {
@@ -51,7 +51,7 @@ fn is_first(limit: u32, e: Entry) -> bool
 // Past these. What else may be at the start is left to the way that knows all the rules. So is what follows a carry, since without one the most
 // entries are a number that the compiler knows, and what a meter holds that does not take every type.
 pub(crate) fn open_over(body: &[u8], limits: Limits) -> Pass
-    requires { entryStart limits.most ≤ length body.now }
+    requires { entry_start limits.most ≤ length body.now }
     ensures { Starts body.now limits result }
 {
     let start = start_pass();

@@ -2,12 +2,12 @@
 ghost use Rattle.std.specs.Prelude.{◌≡◌, true, ◌&&◌, List, ◌∷◌, ◌+◌, ◌≤◌, ◌<◌, length};
 ghost use Rattle.terms.specs.declared.entry.Entry.{Entry};
 ghost use Rattle.register.specs.declared.head.Head.{Head};
-ghost use Rattle.register.specs.Entries.{entryStart, entryAt};
-ghost use Rattle.journal.specs.Journal.{entriesTo};
+ghost use Rattle.register.specs.Entries.{entry_start, entry_at};
+ghost use Rattle.journal.specs.Journal.{entries_to};
 ghost use Rattle.judge.specs.Inner.Index.{crowded, buckets, Indexed};
 ghost use Rattle.judge.specs.Inner.Run.{run_of};
 ghost use Rattle.judge.specs.Inner.Plain.{IsLimits};
-ghost use Rattle.judge.specs.Inner.Pass.{passOf, IsClear, Starts, PassesTo, GoesOn, IsPassed};
+ghost use Rattle.judge.specs.Inner.Pass.{pass_of, IsClear, Starts, PassesTo, GoesOn, IsPassed};
 
 use crate::index::{Index, bucket_of, is_clear, put};
 use crate::limits::{Limits, takes_all};
@@ -34,7 +34,7 @@ pub struct Pass {
 // One entry more: whether it may follow, and whether it is clear of those before it.
 fn pass_with(pass: Pass, limits: Limits, clear: bool, e: Entry) -> Pass
     requires { (pass.run.count < 255) × (pass.run.standing ≤ pass.run.count) × (pass.run.flagged ≤ pass.run.standing) }
-    ensures { (result.apart ≡ pass.apart && clear) × ((es : List Entry) → pass.run ≡ run_of es → result.run ≡ run_of (e ∷ es)) × ((head : Head) (es : List Entry) → IsLimits head limits → pass ≡ passOf head pass.apart es → result ≡ passOf head result.apart (e ∷ es)) }
+    ensures { (result.apart ≡ pass.apart && clear) × ((es : List Entry) → pass.run ≡ run_of es → result.run ≡ run_of (e ∷ es)) × ((head : Head) (es : List Entry) → IsLimits head limits → pass ≡ pass_of head pass.apart es → result ≡ pass_of head result.apart (e ∷ es)) }
 {
     let run = pass.run;
     let follows = may_follow(
@@ -59,7 +59,7 @@ fn pass_with(pass: Pass, limits: Limits, clear: bool, e: Entry) -> Pass
 
 // Past the plain entries that follow, where the meter takes every type, a read stands and none is held.
 fn pass_plain(body: &[u8], limits: Limits, index: &mut [u8; Index::BUCKETS], pass: Pass) -> Pass
-    requires most_in_bounds { (entryStart limits.most ≤ length body.now) × (pass.run.count ≤ limits.most) × (pass.run ≡ run_of (entriesTo pass.run.count body.now)) }
+    requires most_in_bounds { (entry_start limits.most ≤ length body.now) × (pass.run.count ≤ limits.most) × (pass.run ≡ run_of (entries_to pass.run.count body.now)) }
     requires indexed { Indexed body.now pass.run.count index.old }
     ensures { PassesTo body.now limits pass result × Indexed body.now result.run.count index.new }
 {
@@ -86,7 +86,7 @@ fn pass_plain(body: &[u8], limits: Limits, index: &mut [u8; Index::BUCKETS], pas
 // Whether one entry more is clear of those before it: a standing one by the index, and a withdrawn one, which is put into it, if it is later
 // than every standing one.
 fn compare(body: &[u8], index: &mut [u8; Index::BUCKETS], run: Run, e: Entry) -> bool
-    requires count_in_bounds { (entryStart run.count ≤ length body.now) × (run.count < crowded) × (e ≡ entryAt body.now (entryStart run.count)) }
+    requires count_in_bounds { (entry_start run.count ≤ length body.now) × (run.count < crowded) × (e ≡ entry_at body.now (entry_start run.count)) }
     requires indexed { Indexed body.now run.count index.old }
     ensures { IsClear body.now run e result × Indexed body.now (run.count + 1) index.new }
 {
@@ -104,7 +104,7 @@ fn compare(body: &[u8], index: &mut [u8; Index::BUCKETS], run: Run, e: Entry) ->
 
 // One entry more, by all the rules.
 fn pass_entry(body: &[u8], limits: Limits, index: &mut [u8; Index::BUCKETS], pass: Pass) -> Pass
-    requires most_in_bounds { (entryStart limits.most ≤ length body.now) × (pass.run.count < limits.most) × (pass.run ≡ run_of (entriesTo pass.run.count body.now)) }
+    requires most_in_bounds { (entry_start limits.most ≤ length body.now) × (pass.run.count < limits.most) × (pass.run ≡ run_of (entries_to pass.run.count body.now)) }
     requires indexed { Indexed body.now pass.run.count index.old }
     ensures { GoesOn body.now limits pass result × Indexed body.now result.run.count index.new }
 {
@@ -116,7 +116,7 @@ fn pass_entry(body: &[u8], limits: Limits, index: &mut [u8; Index::BUCKETS], pas
 
 // Past the plain entries that follow, or past one entry by all the rules.
 fn pass_next(body: &[u8], limits: Limits, index: &mut [u8; Index::BUCKETS], pass: Pass) -> Pass
-    requires most_in_bounds { (entryStart limits.most ≤ length body.now) × (pass.run.count < limits.most) × (pass.run ≡ run_of (entriesTo pass.run.count body.now)) }
+    requires most_in_bounds { (entry_start limits.most ≤ length body.now) × (pass.run.count < limits.most) × (pass.run ≡ run_of (entries_to pass.run.count body.now)) }
     requires indexed { Indexed body.now pass.run.count index.old }
     ensures { GoesOn body.now limits pass result × Indexed body.now result.run.count index.new }
 {
@@ -137,7 +137,7 @@ pub(crate) fn pass_rest(
     index: &mut [u8; Index::BUCKETS],
     opened: Pass,
 ) -> Pass
-    requires most_in_bounds { (entryStart limits.most ≤ length body.now) × IsLimits head limits × Starts body.now limits opened }
+    requires most_in_bounds { (entry_start limits.most ≤ length body.now) × IsLimits head limits × Starts body.now limits opened }
     requires index_len { length index.old ≡ buckets }
     ensures { IsPassed head body.now result × (result.ordered ≡ true → Indexed body.now result.run.count index.new) }
 {

@@ -1,8 +1,8 @@
 // The whole of a body passed, and whether a read that is asked for is among the withdrawn ones.
 ghost use Rattle.std.specs.Prelude.{◌≡◌, true, ◌-◌, ◌≤◌, length};
 ghost use Rattle.register.specs.declared.head.Head.{Head};
-ghost use Rattle.register.specs.Entries.{entryStart};
-ghost use Rattle.journal.specs.Journal.{countFrom};
+ghost use Rattle.register.specs.Entries.{entry_start};
+ghost use Rattle.journal.specs.Journal.{count_from};
 ghost use Rattle.judge.specs.Inner.Plain.{IsLimits};
 ghost use Rattle.judge.specs.Inner.Pass.{Starts, HasPassed};
 
@@ -29,7 +29,7 @@ fn pass_indexed(
     day: u16,
     value: u32,
 ) -> Passed
-    requires { (entryStart limits.most ≤ length body.now) × IsLimits head limits × Starts body.now limits opened }
+    requires { (entry_start limits.most ≤ length body.now) × IsLimits head limits × Starts body.now limits opened }
     ensures { HasPassed head body.now day value result }
 {
     let mut index = [0; Index::BUCKETS];
@@ -47,8 +47,8 @@ fn pass_indexed(
 
 // No entry follows the first `at`.
 fn is_end(body: &[u8], most: u8, at: u8) -> bool
-    requires { (entryStart most ≤ length body.now) × (at ≤ most) }
-    ensures { result ≡ true → countFrom (most - at) at body.now ≡ at }
+    requires { (entry_start most ≤ length body.now) × (at ≤ most) }
+    ensures { result ≡ true → count_from (most - at) at body.now ≡ at }
 {
     if at == most {
         return true;
@@ -59,7 +59,7 @@ fn is_end(body: &[u8], most: u8, at: u8) -> bool
 // Whether the entries of a body are in order, to the first zero kind byte, and whether a read is among the withdrawn ones. An index is made
 // only where there is more than the reads that a journal opens with.
 pub(crate) fn pass_over(body: &[u8], head: Head, limits: Limits, day: u16, value: u32) -> Passed
-    requires { (entryStart limits.most ≤ length body.now) × IsLimits head limits }
+    requires { (entry_start limits.most ≤ length body.now) × IsLimits head limits }
     ensures { HasPassed head body.now day value result }
 {
     let opened = open_over(body, limits);

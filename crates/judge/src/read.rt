@@ -1,8 +1,8 @@
 // Reading the entries of an area. The register has functions that ask nothing for this; in the loops over entries these, which ask that the bytes
 // are there, take three instructions less an entry.
 ghost use Rattle.std.specs.Prelude.{◌≡◌, ◌+◌, ◌≤◌, length};
-ghost use Rattle.register.specs.Bytes.{word_at, longAt};
-ghost use Rattle.register.specs.Entries.{entryStart, entryAt};
+ghost use Rattle.register.specs.Bytes.{word_at, long_at};
+ghost use Rattle.register.specs.Entries.{entry_start, entry_at};
 
 use register::area::Layout;
 use terms::entry::Entry;
@@ -18,7 +18,7 @@ pub(crate) fn word_at(bytes: &[u8], i: usize) -> u16
 
 pub(crate) fn long_at(bytes: &[u8], i: usize) -> u32
     requires { i + 4 ≤ length bytes.now }
-    ensures { result ≡ longAt bytes.now i }
+    ensures { result ≡ long_at bytes.now i }
 {
     let low = word_at(bytes, i) as u32;
     let high = word_at(bytes, i + 2) as u32;
@@ -27,8 +27,8 @@ pub(crate) fn long_at(bytes: &[u8], i: usize) -> u32
 
 // The entry after k others.
 pub(crate) fn entry_at(body: &[u8], k: u8) -> Entry
-    requires { entryStart (k + 1) ≤ length body.now }
-    ensures { result ≡ entryAt body.now (entryStart k) }
+    requires { entry_start (k + 1) ≤ length body.now }
+    ensures { result ≡ entry_at body.now (entry_start k) }
 {
     let at = Layout::ENTRY_BYTES * (k as usize);
     let day = word_at(body, at + 1);

@@ -2,11 +2,11 @@
 // the way that knows all the rules, so that the tests here need only never say yes wrongly.
 ghost use Rattle.std.specs.Prelude.{◌≡◌, true, cond, List, [], ◌∷◌, ◌+◌, ◌-◌, ◌≤◌, ◌<◌, eqb, length};
 ghost use Rattle.terms.specs.declared.entry.Entry.{Entry};
-ghost use Rattle.terms.specs.Entry.{isStanding};
-ghost use Rattle.register.specs.Entries.{entryStart};
-ghost use Rattle.journal.specs.Journal.{entriesTo, isFlagged};
+ghost use Rattle.terms.specs.Entry.{is_standing};
+ghost use Rattle.register.specs.Entries.{entry_start};
+ghost use Rattle.journal.specs.Journal.{entries_to, is_flagged};
 ghost use Rattle.judge.specs.Inner.Index.{Indexed};
-ghost use Rattle.judge.specs.Inner.Run.{run_of, ranTo};
+ghost use Rattle.judge.specs.Inner.Run.{run_of, ran_to};
 ghost use Rattle.judge.specs.Inner.Plain.{PlainBody, Plain, RunsTo, StandsTo};
 
 use crate::index::{Index, bucket_of, is_clear};
@@ -48,7 +48,7 @@ pub(crate) fn start_run() -> Run
 // The flagged ones with one standing read more.
 fn flagged_with(flagged: u8, e: Entry) -> u8
     requires { flagged < 255 }
-    ensures { result ≡ cond (isFlagged e) (flagged + 1) flagged }
+    ensures { result ≡ cond (is_flagged e) (flagged + 1) flagged }
 {
     if e.flag == 1 {
         return flagged + 1;
@@ -69,7 +69,7 @@ fn first_with(run: Run, e: Entry) -> u32
 // One standing read more.
 pub(crate) fn stand(run: Run, flagged: u8, e: Entry) -> Run
     requires { (run.count < 255) × (run.standing ≤ run.count) }
-    ensures { (result.count ≡ run.count + 1) × ((es : List Entry) → isStanding e ≡ true → flagged ≡ cond (isFlagged e) (run.flagged + 1) run.flagged → run ≡ run_of es → result ≡ run_of (e ∷ es)) }
+    ensures { (result.count ≡ run.count + 1) × ((es : List Entry) → is_standing e ≡ true → flagged ≡ cond (is_flagged e) (run.flagged + 1) run.flagged → run ≡ run_of es → result ≡ run_of (e ∷ es)) }
 {
     let first = first_with(run, e);
     let count = run.count + 1;
@@ -133,7 +133,7 @@ fn is_plain(limits: Limits, last: u16, e: Entry) -> bool
 
 // The run after plain entries alone, to a count.
 fn run_to(from: Run, count: u8, day: u16, newest: u8, standing: u8) -> Run
-    ensures { result ≡ ranTo from count day newest standing }
+    ensures { result ≡ ran_to from count day newest standing }
 {
     Run {
         first: from.first,
@@ -157,7 +157,7 @@ pub(crate) fn one_less(k: u8) -> u8
 
 // Past the plain standing reads that follow where all others stand, so that none may clash. It carries only a count and a day.
 pub(crate) fn plain_over(body: &[u8], limits: Limits, from: Run) -> Run
-    requires { (entryStart limits.most ≤ length body.now) × (from.count ≤ limits.most) × (from ≡ run_of (entriesTo from.count body.now)) × (from.standing ≡ 0 → ⊥) }
+    requires { (entry_start limits.most ≤ length body.now) × (from.count ≤ limits.most) × (from ≡ run_of (entries_to from.count body.now)) × (from.standing ≡ 0 → ⊥) }
     ensures { StandsTo body.now limits from result }
 {
     if from.standing != from.count {
@@ -184,7 +184,7 @@ pub(crate) fn run_over(
     index: &mut [u8; Index::BUCKETS],
     from: Run,
 ) -> Run
-    requires most_in_bounds { (entryStart limits.most ≤ length body.now) × (from.count ≤ limits.most) × (from ≡ run_of (entriesTo from.count body.now)) × (from.standing ≡ 0 → ⊥) }
+    requires most_in_bounds { (entry_start limits.most ≤ length body.now) × (from.count ≤ limits.most) × (from ≡ run_of (entries_to from.count body.now)) × (from.standing ≡ 0 → ⊥) }
     requires indexed { Indexed body.now from.count index.old }
     ensures { RunsTo body.now limits from result × Indexed body.now result.count index.new }
 {

@@ -6,40 +6,40 @@ use native.Mathlib.Omega.{arith}
 use lib.IntN.{ℤ, pos, negsuc}
 use lib.ListN.{length, length-append}
 use Rattle.terms.specs.Answer.{refusal}
-use Rattle.terms.specs.Number.{sheetFault}
+use Rattle.terms.specs.Number.{sheet_fault}
 use Rattle.calls.specs.declared.call.Reply.{Reply}
 use Rattle.calls.specs.declared.call.Reply.TheVariants.{Answered, Reported}
-use Rattle.lines.specs.Decimal.{digits, digitCountIn, digitCount, decimal, signed}
+use Rattle.lines.specs.Decimal.{digits, digit_count_in, digit_count, decimal, signed}
 use Rattle.lines.specs.Inner.Room.{Room}
-use Rattle.lines.specs.Line.{field, lastField, line_of, lineMost}
-use Rattle.lines.proofs.Digits.{decimal-length}
+use Rattle.lines.specs.Line.{field, last_field, line_of, line_most}
+use Rattle.lines.proofs.Digits.{decimal_length}
 
-pub fault-line : line_of (Answered (refusal sheetFault)) ≡ 50 ∷ 54 ∷ 32 ∷ 48 ∷ 32 ∷ 48 ∷ 10 ∷ []
-unfolding digits digitCountIn digitCount decimal signed field lastField line_of
-fault-line = refl
+pub fault_line_lem : line_of (Answered (refusal sheet_fault)) ≡ 50 ∷ 54 ∷ 32 ∷ 48 ∷ 32 ∷ 48 ∷ 10 ∷ []
+unfolding digits digit_count_in digit_count decimal signed field last_field line_of
+fault_line_lem = refl
 
 -- ---- how long
-field-most : (n : ℕ) → length (field n) ≤ 21
+field_most : (n : ℕ) → length (field n) ≤ 21
 unfolding field
-field-most n = simp length-append (omega (arith, decimal-length n))
+field_most n = simp length-append (omega (arith, decimal_length n))
 
-signed-most : (z : ℤ) → length (signed z) ≤ 21
+signed_most : (z : ℤ) → length (signed z) ≤ 21
 unfolding signed
-signed-most (pos n) = omega (arith, decimal-length n)
-signed-most (negsuc n) = omega (arith, decimal-length (suc n))
+signed_most (pos n) = omega (arith, decimal_length n)
+signed_most (negsuc n) = omega (arith, decimal_length (suc n))
 
-last-most : (z : ℤ) → length (lastField z) ≤ 22
-unfolding lastField
-last-most z = simp length-append (omega (arith, signed-most z))
+last_most : (z : ℤ) → length (last_field z) ≤ 22
+unfolding last_field
+last_most z = simp length-append (omega (arith, signed_most z))
 
 -- of any reply
-pub line-most : (reply : Reply) → length (line_of reply) ≤ lineMost
+pub line_most_lem : (reply : Reply) → length (line_of reply) ≤ line_most
 unfolding line_of
-line-most (Answered a) =
-    simp length-append (omega (arith, field-most a.number, field-most a.flag, last-most a.advance))
-line-most (Reported r) =
+line_most_lem (Answered a) =
+    simp length-append (omega (arith, field_most a.number, field_most a.flag, last_most a.advance))
+line_most_lem (Reported r) =
     simp length-append
-    (omega (arith, field-most r.number, field-most r.standing, field-most r.flagged, last-most r.total))
+    (omega (arith, field_most r.number, field_most r.standing, field_most r.flagged, last_most r.total))
 
-pub line-room : (at : ℕ) (reply : Reply) → at + lineMost < 2 ^ 64 → Room at (line_of reply)
-line-room at reply h = record { fits = omega (arith, line-most reply) }
+pub line_room : (at : ℕ) (reply : Reply) → at + line_most < 2 ^ 64 → Room at (line_of reply)
+line_room at reply h = record { fits = omega (arith, line_most_lem reply) }

@@ -7,19 +7,19 @@ digits zero n = []
 digits (suc k) n = digits k (n / 10) ++ ((48 + n % 10) ∷ [])
 
 -- how many digits a number has, at least one and at most `most`
-unfoldable pub digitCountIn : ℕ → ℕ → ℕ
-digitCountIn zero n = 0
-digitCountIn (suc most) n = cond (ltb n 10) 1 (suc (digitCountIn most (n / 10)))
+unfoldable pub digit_count_in : ℕ → ℕ → ℕ
+digit_count_in zero n = 0
+digit_count_in (suc most) n = cond (ltb n 10) 1 (suc (digit_count_in most (n / 10)))
 
 -- 20 digits hold every number of 64 bits
-abbrev pub mostDigits : ℕ
-mostDigits = 20
+abbrev pub most_digits : ℕ
+most_digits = 20
 
-unfoldable pub digitCount : ℕ → ℕ
-digitCount n = digitCountIn mostDigits n
+unfoldable pub digit_count : ℕ → ℕ
+digit_count n = digit_count_in most_digits n
 
 unfoldable pub decimal : ℕ → List ℕ
-decimal n = digits (digitCount n) n
+decimal n = digits (digit_count n) n
 
 -- a minus sign, 45, before a negative number: the paper prints an advance of −500 as `-500`
 unfoldable pub signed : ℤ → List ℕ

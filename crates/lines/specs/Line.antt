@@ -10,13 +10,13 @@ unfoldable pub field : ℕ → List ℕ
 field n = decimal n ++ (32 ∷ [])
 
 -- the last field, which may be negative, and the line feed
-unfoldable pub lastField : ℤ → List ℕ
-lastField z = signed z ++ (10 ∷ [])
+unfoldable pub last_field : ℤ → List ℕ
+last_field z = signed z ++ (10 ∷ [])
 
 unfoldable pub line_of : Reply → List ℕ
-line_of (Answered a) = field a.number ++ (field a.flag ++ lastField a.advance)
-line_of (Reported r) = field r.number ++ (field r.standing ++ (field r.flagged ++ lastField r.total))
+line_of (Answered a) = field a.number ++ (field a.flag ++ last_field a.advance)
+line_of (Reported r) = field r.number ++ (field r.standing ++ (field r.flagged ++ last_field r.total))
 
 -- a line is at most this long
-abbrev pub lineMost : ℕ
-lineMost = 85
+abbrev pub line_most : ℕ
+line_most = 85

@@ -1,7 +1,7 @@
 // The line that the program prints for a reply.
 ghost use Rattle.lines.specs.Put.{Put};
 ghost use Rattle.lines.specs.Inner.Room.{Room};
-ghost use Rattle.lines.specs.Line.{field, lastField, line_of};
+ghost use Rattle.lines.specs.Line.{field, last_field, line_of};
 
 use crate::decimal::{put_decimal, put_signed};
 use calls::call::Reply;
@@ -28,8 +28,8 @@ fn put_field(out: &mut [u8], at: usize, n: u16) -> usize
 
 // The last field and the line feed.
 fn put_last(out: &mut [u8], at: usize, n: i64) -> usize
-    requires { Room at (lastField n) }
-    ensures { Put out.old at (lastField n) out.new result }
+    requires { Room at (last_field n) }
+    ensures { Put out.old at (last_field n) out.new result }
 {
     let end = put_signed(out, at, n);
     put_byte(out, end, b'\n');

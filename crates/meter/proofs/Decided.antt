@@ -4,25 +4,25 @@ use mathlib.Core.List.{List}
 use Prim.Native.Nat.{ℕ}
 use lib.Dec.{eqb}
 use Rattle.terms.specs.Number.{accepted}
-use Rattle.terms.specs.Rule.{firstBroken}
-use Rattle.journal.specs.Journal.{journalOf}
-use Rattle.judge.specs.Inner.Judged.{summaryOf}
+use Rattle.terms.specs.Rule.{first_broken}
+use Rattle.journal.specs.Journal.{journal_of}
+use Rattle.judge.specs.Inner.Judged.{summary_of}
 use Rattle.calls.specs.declared.call.Reply.TheVariants.{Answered}
-use Rattle.calls.specs.Checks.{withdrawChecks}
-use Rattle.calls.specs.Calls.{withdrawIn}
-use Rattle.calls.proofs.Bools.{by-test}
+use Rattle.calls.specs.Checks.{withdraw_checks}
+use Rattle.calls.specs.Calls.{withdraw_in}
+use Rattle.calls.proofs.Bools.{by_test}
 use Rattle.meter.specs.declared.withdraw.Decided.{Decided}
-use Rattle.meter.specs.Withdrawal.{decidedAnswer}
-use Rattle.meter.specs.Inner.Withdrawal.{withdrawDecided, Decides}
+use Rattle.meter.specs.Withdrawal.{decided_answer}
+use Rattle.meter.specs.Inner.Withdrawal.{withdraw_decided, Decides}
 
-answers : (day value : ℕ) (area : List ℕ) → Answered (decidedAnswer (journalOf area) (withdrawDecided day value area)) ≡ (withdrawIn day value area).reply
-unfolding withdrawDecided withdrawIn decidedAnswer summaryOf
+answers : (day value : ℕ) (area : List ℕ) → Answered (decided_answer (journal_of area) (withdraw_decided day value area)) ≡ (withdraw_in day value area).reply
+unfolding withdraw_decided withdraw_in decided_answer summary_of
 answers day value area =
-    by-test (eqb (firstBroken (withdrawChecks day value area)) accepted) (λ h. rw h) (λ h. rw h)
+    by_test (eqb (first_broken (withdraw_checks day value area)) accepted) (λ h. rw h) (λ h. rw h)
 
-pub decides : (day value : ℕ) (area : List ℕ) {d : Decided} → d ≡ withdrawDecided day value area → Decides day value area d
+pub decides : (day value : ℕ) (area : List ℕ) {d : Decided} → d ≡ withdraw_decided day value area → Decides day value area d
 decides day value area e =
     record {
-      decision-is = e;
-      answer-is = ap (λ (d : Decided). Answered (decidedAnswer (journalOf area) d)) e ∙ answers day value area;
+      decision_is = e;
+      answer_is = ap (λ (d : Decided). Answered (decided_answer (journal_of area) d)) e ∙ answers day value area;
     }

@@ -4,17 +4,17 @@ use mathlib.Core.Bool.{Bool, true, false, not, cond}
 use mathlib.Core.List.{List}
 use Prim.Native.Nat.{ℕ}
 use lib.ListN.{length}
-use Rattle.terms.specs.Number.{accepted, noMeter, damaged}
-use Rattle.terms.specs.Rule.{Rule, firstBroken}
-use Rattle.register.specs.Area.{area_bytes, allZero}
+use Rattle.terms.specs.Number.{accepted, no_meter, damaged}
+use Rattle.terms.specs.Rule.{Rule, first_broken}
+use Rattle.register.specs.Area.{area_bytes, all_zero}
 use Rattle.judge.specs.declared.area.Summary.{Summary}
 use Rattle.judge.specs.declared.area.Judged.{Judged}
 use Rattle.judge.specs.declared.area.Judged.TheVariants.{Zero, Damaged, Sound}
-use Rattle.journal.specs.Journal.{Journal, journalOf}
-use Rattle.journal.specs.Numbers.{areaRules}
-use Rattle.journal.specs.Sound.{isSound}
-use Rattle.judge.specs.Inner.Judged.{summaryOf, judged, Counted}
-use Rattle.calls.specs.Checks.{withJournal}
+use Rattle.journal.specs.Journal.{Journal, journal_of}
+use Rattle.journal.specs.Numbers.{area_rules}
+use Rattle.journal.specs.Sound.{is_sound}
+use Rattle.judge.specs.Inner.Judged.{summary_of, judged, Counted}
+use Rattle.calls.specs.Checks.{with_journal}
 
 -- by the two tests
 module _ (s : Summary) (more : ℕ) where
@@ -22,54 +22,54 @@ module _ (s : Summary) (more : ℕ) where
   verdict zero sound = cond zero Zero (cond sound (Sound s) Damaged)
 
   abbrev number : Bool → Bool → ℕ
-  number zero sound = cond zero noMeter (cond (not sound) damaged more)
+  number zero sound = cond zero no_meter (cond (not sound) damaged more)
 
-  if-zero : (zero sound : Bool) → verdict zero sound ≡ Zero → number zero sound ≡ noMeter
-  if-zero true sound e = refl
-  if-zero false true e = cc
-  if-zero false false e = cc
+  if_zero : (zero sound : Bool) → verdict zero sound ≡ Zero → number zero sound ≡ no_meter
+  if_zero true sound e = refl
+  if_zero false true e = cc
+  if_zero false false e = cc
 
-  if-damaged : (zero sound : Bool) → verdict zero sound ≡ Damaged → number zero sound ≡ damaged
-  if-damaged true sound e = cc
-  if-damaged false true e = cc
-  if-damaged false false e = refl
+  if_damaged : (zero sound : Bool) → verdict zero sound ≡ Damaged → number zero sound ≡ damaged
+  if_damaged true sound e = cc
+  if_damaged false true e = cc
+  if_damaged false false e = refl
 
-  if-sound : (zero sound : Bool) {t : Summary} → verdict zero sound ≡ Sound t → (sound ≡ true) × (t ≡ s) × (number zero sound ≡ more)
-  if-sound true sound e = (cc, cc, cc)
-  if-sound false true e = (refl, cc, refl)
-  if-sound false false e = (cc, cc, cc)
+  if_sound : (zero sound : Bool) {t : Summary} → verdict zero sound ≡ Sound t → (sound ≡ true) × (t ≡ s) × (number zero sound ≡ more)
+  if_sound true sound e = (cc, cc, cc)
+  if_sound false true e = (refl, cc, refl)
+  if_sound false false e = (cc, cc, cc)
 
-  if-accepted : (zero sound : Bool) → number zero sound ≡ accepted → sound ≡ true
-  if-accepted true sound e = cc
-  if-accepted false true e = refl
-  if-accepted false false e = cc
+  if_accepted : (zero sound : Bool) → number zero sound ≡ accepted → sound ≡ true
+  if_accepted true sound e = cc
+  if_accepted false true e = refl
+  if_accepted false false e = cc
 
 module _ (rules : Journal → List Rule) (area : List ℕ) (size : length area ≡ area_bytes) where
-  abbrev firstNumber : ℕ
-  firstNumber = firstBroken (withJournal rules area)
+  abbrev first_number : ℕ
+  first_number = first_broken (with_journal rules area)
 
-  abbrev journalNumber : ℕ
-  journalNumber = firstBroken (rules (journalOf area))
+  abbrev journal_number : ℕ
+  journal_number = first_broken (rules (journal_of area))
 
-  area-first : firstNumber ≡ number (summaryOf (journalOf area)) journalNumber (allZero area) (isSound area)
-  unfolding areaRules
-  area-first = refl
+  area_first : first_number ≡ number (summary_of (journal_of area)) journal_number (all_zero area) (is_sound area)
+  unfolding area_rules
+  area_first = refl
 
-  area-judged : judged area ≡ verdict (summaryOf (journalOf area)) journalNumber (allZero area) (isSound area)
+  area_judged : judged area ≡ verdict (summary_of (journal_of area)) journal_number (all_zero area) (is_sound area)
   unfolding judged
-  area-judged = rw size
+  area_judged = rw size
 
-  pub zero_number : judged area ≡ Zero → firstNumber ≡ noMeter
-  zero_number e = area-first ∙ if-zero (summaryOf (journalOf area)) journalNumber (allZero area) (isSound area) (rw area-judged at e)
+  pub zero_number : judged area ≡ Zero → first_number ≡ no_meter
+  zero_number e = area_first ∙ if_zero (summary_of (journal_of area)) journal_number (all_zero area) (is_sound area) (rw area_judged at e)
 
-  pub damaged-number : judged area ≡ Damaged → firstNumber ≡ damaged
-  damaged-number e = area-first ∙ if-damaged (summaryOf (journalOf area)) journalNumber (allZero area) (isSound area) (rw area-judged at e)
+  pub damaged_number : judged area ≡ Damaged → first_number ≡ damaged
+  damaged_number e = area_first ∙ if_damaged (summary_of (journal_of area)) journal_number (all_zero area) (is_sound area) (rw area_judged at e)
 
-  pub sound-number : {t : Summary} → judged area ≡ Sound t → Counted area t × (firstNumber ≡ journalNumber)
-  sound-number e =
-      let s = if-sound (summaryOf (journalOf area)) journalNumber (allZero area) (isSound area) (rw area-judged at e) in
-      (record { long = size; sound = s.0; summary = s.1 }, area-first ∙ s.2)
+  pub sound_number : {t : Summary} → judged area ≡ Sound t → Counted area t × (first_number ≡ journal_number)
+  sound_number e =
+      let s = if_sound (summary_of (journal_of area)) journal_number (all_zero area) (is_sound area) (rw area_judged at e) in
+      (record { long = size; sound = s.0; summary = s.1 }, area_first ∙ s.2)
 
   -- an area that no check refuses is sound
-  pub accepted-sound : firstNumber ≡ accepted → isSound area ≡ true
-  accepted-sound e = if-accepted (summaryOf (journalOf area)) journalNumber (allZero area) (isSound area) (sym area-first ∙ e)
+  pub accepted_sound : first_number ≡ accepted → is_sound area ≡ true
+  accepted_sound e = if_accepted (summary_of (journal_of area)) journal_number (all_zero area) (is_sound area) (sym area_first ∙ e)

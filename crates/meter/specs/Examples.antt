@@ -3,8 +3,8 @@
 use Rattle.std.specs.Prelude.{◌≡◌, List, ◌++◌, ℕ, length}
 use Rattle.terms.specs.declared.entry.Entry.{Entry}
 use Rattle.terms.specs.declared.entry.Slot.TheVariants.{Read, Empty}
-use Rattle.calls.specs.PlaceExamples.{meterEntry, withdrawnEntry, heldEntry, zeros, register}
-use Rattle.meter.specs.Search.{searched, searchIn, searchOf}
+use Rattle.calls.specs.PlaceExamples.{meter_entry, withdrawn_entry, held_entry, zeros, register}
+use Rattle.meter.specs.Search.{searched, search_in, search_of}
 
 abbrev opening : Entry
 opening = record { kind = 2; day = 20; value = 9200; letter = 73; indicator = 0; flag = 0 }
@@ -12,15 +12,15 @@ opening = record { kind = 2; day = 20; value = 9200; letter = 73; indicator = 0;
 -- THE CLAIM: one row for each example
 pub record ExamplesHold : Type 0 where
   -- the find, and how many standing days were compared
-  pub found : searchOf 1 20 register ≡ searched 0 (Read opening) 1
-  pub day-before : searchOf 1 19 register ≡ searched 0 Empty 1
-  pub day-after : searchOf 1 21 register ≡ searched 0 Empty 1
+  pub found : search_of 1 20 register ≡ searched 0 (Read opening) 1
+  pub day_before : search_of 1 19 register ≡ searched 0 Empty 1
+  pub day_after : search_of 1 21 register ≡ searched 0 Empty 1
   -- a withdrawn read and a held one are neither found nor compared
-  pub withdrawn-passed : searchOf 1 30 register ≡ searched 0 Empty 1
-  pub held-passed : searchOf 1 40 register ≡ searched 0 Empty 1
-  pub none-stands : searchIn 20 (meterEntry ++ zeros) ≡ searched 0 Empty 0
+  pub withdrawn_passed : search_of 1 30 register ≡ searched 0 Empty 1
+  pub held_passed : search_of 1 40 register ≡ searched 0 Empty 1
+  pub none_stands : search_in 20 (meter_entry ++ zeros) ≡ searched 0 Empty 0
   -- refused as a report is: nothing found, no day compared
-  pub not-enrolled : searchOf 0 20 register ≡ searched 3 Empty 0
-  pub damaged : searchIn 20 (meterEntry ++ (withdrawnEntry ++ heldEntry)) ≡ searched 4 Empty 0
-  pub no_place : (bytes : List ℕ) → length bytes ≡ 32768 → searchOf 64 20 bytes ≡ searched 3 Empty 0
-  pub misfit : (bytes : List ℕ) → length bytes ≡ 32767 → searchOf 1 20 bytes ≡ searched 2 Empty 0
+  pub not_enrolled : search_of 0 20 register ≡ searched 3 Empty 0
+  pub damaged : search_in 20 (meter_entry ++ (withdrawn_entry ++ held_entry)) ≡ searched 4 Empty 0
+  pub no_place : (bytes : List ℕ) → length bytes ≡ 32768 → search_of 64 20 bytes ≡ searched 3 Empty 0
+  pub misfit : (bytes : List ℕ) → length bytes ≡ 32767 → search_of 1 20 bytes ≡ searched 2 Empty 0

@@ -4,34 +4,34 @@ use Rattle.std.specs.Prelude.{cond, List, ℕ, eqb}
 use Rattle.terms.specs.declared.entry.Slot.{Slot}
 use Rattle.terms.specs.declared.entry.Slot.TheVariants.{Empty}
 use Rattle.terms.specs.Number.{accepted}
-use Rattle.terms.specs.Rule.{firstBroken}
-use Rattle.register.specs.Area.{areaOf}
-use Rattle.journal.specs.Journal.{journalOf, standing}
+use Rattle.terms.specs.Rule.{first_broken}
+use Rattle.register.specs.Area.{area_of}
+use Rattle.journal.specs.Journal.{journal_of, standing}
 use Rattle.reads.specs.declared.search.Search.{Search}
-use Rattle.reads.specs.Search.{searchAnswer}
-use Rattle.calls.specs.Checks.{reportChecks}
-use Rattle.calls.specs.Calls.{placeNumber}
+use Rattle.reads.specs.Search.{search_answer}
+use Rattle.calls.specs.Checks.{report_checks}
+use Rattle.calls.specs.Calls.{place_number}
 use Rattle.meter.specs.declared.search.Searched.{Searched}
 
 abbrev pub searched : ℕ → Slot → ℕ → Searched
 searched number found compared = record { number = number; found = found; compared = compared }
 
 -- "With its find it answers how many standing days it compared"
-abbrev pub foundBy : Search → Searched
-foundBy s = searched accepted s.found s.compared
+abbrev pub found_by : Search → Searched
+found_by s = searched accepted s.found s.compared
 
 -- refused: nothing is found, and no day is compared
-abbrev pub refusedSearch : ℕ → Searched
-refusedSearch number = searched number Empty 0
+abbrev pub refused_search : ℕ → Searched
+refused_search number = searched number Empty 0
 
-unfoldable pub searchIn : ℕ → List ℕ → Searched
-searchIn day area =
-    cond (eqb (firstBroken (reportChecks area)) accepted)
-    (foundBy (searchAnswer day (standing (journalOf area).entries)))
-    (refusedSearch (firstBroken (reportChecks area)))
+unfoldable pub search_in : ℕ → List ℕ → Searched
+search_in day area =
+    cond (eqb (first_broken (report_checks area)) accepted)
+    (found_by (search_answer day (standing (journal_of area).entries)))
+    (refused_search (first_broken (report_checks area)))
 
-unfoldable pub searchOf : ℕ → ℕ → List ℕ → Searched
-searchOf place day register =
-    cond (eqb (placeNumber place register) accepted)
-    (searchIn day (areaOf place register))
-    (refusedSearch (placeNumber place register))
+unfoldable pub search_of : ℕ → ℕ → List ℕ → Searched
+search_of place day register =
+    cond (eqb (place_number place register) accepted)
+    (search_in day (area_of place register))
+    (refused_search (place_number place register))

@@ -1,8 +1,8 @@
 // Enrol: a meter's plate, of either profile, into an area that is all zero.
 ghost use Rattle.std.specs.Prelude.{◌≡◌};
-ghost use Rattle.terms.specs.Rule.{firstBroken};
-ghost use Rattle.calls.specs.Checks.{enrolChecks};
-ghost use Rattle.calls.specs.Calls.{plateOf, acted, enrolIn, done, step};
+ghost use Rattle.terms.specs.Rule.{first_broken};
+ghost use Rattle.calls.specs.Checks.{enrol_checks};
+ghost use Rattle.calls.specs.Calls.{plate_of, acted, enrol_in, done, step};
 
 use calls::call::{Call, Reply};
 use journal::plate::is_plate;
@@ -17,7 +17,7 @@ use zeros::is_zero;
 
 // The head that an enrolment writes.
 fn plate(profile: Profile, dials: u8, capacity: u32) -> Head
-    ensures { result ≡ plateOf profile dials capacity }
+    ensures { result ≡ plate_of profile dials capacity }
 {
     Head {
         profile,
@@ -30,7 +30,7 @@ fn plate(profile: Profile, dials: u8, capacity: u32) -> Head
 
 // 24, 25 or 0 for an area.
 fn check_enrolment(area: &[u8], head: Head) -> u8
-    ensures { result ≡ firstBroken (enrolChecks head area.now) }
+    ensures { result ≡ first_broken (enrol_checks head area.now) }
 {
     if !is_zero(area) {
         return Number::ENROLLED;
@@ -43,7 +43,7 @@ fn check_enrolment(area: &[u8], head: Head) -> u8
 
 // The call on the area that it names.
 fn enrol_in(area: &mut [u8], profile: Profile, dials: u8, capacity: u32) -> Answer
-    ensures { acted (Reply.Answered result) area.new ≡ enrolIn (plateOf profile dials capacity) area.old }
+    ensures { acted (Reply.Answered result) area.new ≡ enrol_in (plate_of profile dials capacity) area.old }
 {
     let head = plate(profile, dials, capacity);
     let number = check_enrolment(area, head);

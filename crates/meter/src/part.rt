@@ -1,7 +1,7 @@
 // Journal: the meter's part of the caller's own register.
 ghost use Rattle.std.specs.Prelude.{◌≡◌, length};
 ghost use Rattle.register.specs.Area.{area_bytes};
-ghost use Rattle.calls.specs.Calls.{lengthIn, journalLength};
+ghost use Rattle.calls.specs.Calls.{length_in, journal_length};
 ghost use Rattle.meter.specs.Part.{Part};
 
 use judge::area::{Judged, judge_area};
@@ -12,7 +12,7 @@ use register::head::offset_after;
 // How long an area's journal is, and 0 where there is none.
 fn length_in(area: &[u8]) -> usize
     requires { length area.now ≡ area_bytes }
-    ensures { result ≡ lengthIn area.now }
+    ensures { result ≡ length_in area.now }
 {
     let judgement = judge_area(area, 0, 0);
     let found = judgement.found;
@@ -28,7 +28,7 @@ fn length_in(area: &[u8]) -> usize
 
 // How long the part is: from the area's start to the last entry's end, and 0 where report refuses.
 pub fn journal_length(register: &[u8], place: u16) -> usize
-    ensures { result ≡ journalLength place register.now }
+    ensures { result ≡ journal_length place register.now }
 {
     match locate(register, place) {
         Located::Refused(_) => 0,

@@ -2,9 +2,9 @@
 ghost use Rattle.std.specs.Prelude.{◌≡◌, ◌+◌, ◌≤◌, length};
 ghost use Rattle.register.specs.Area.{area_bytes};
 ghost use Rattle.journal.specs.Journal.{Journal, standing};
-ghost use Rattle.journal.specs.Total.{flaggedIn, total_of, reportOf};
-ghost use Rattle.judge.specs.Inner.Judged.{summaryOf};
-ghost use Rattle.calls.specs.Calls.{reportIn, acted, done, step};
+ghost use Rattle.journal.specs.Total.{flagged_in, total_of, report_of};
+ghost use Rattle.judge.specs.Inner.Judged.{summary_of};
+ghost use Rattle.calls.specs.Calls.{report_in, acted, done, step};
 
 use arithmetic::advance::total;
 use calls::call::{Call, Reply};
@@ -17,7 +17,7 @@ use terms::number::Number;
 
 // last − first + 10^n × flagged, 0 if none stands.
 fn total_in(t: Summary, flagged: u16) -> i64
-    ensures { (j : Journal) → t ≡ summaryOf j → flagged ≡ flaggedIn j.head (standing j.entries) → result ≡ total_of j.head (standing j.entries) }
+    ensures { (j : Journal) → t ≡ summary_of j → flagged ≡ flagged_in j.head (standing j.entries) → result ≡ total_of j.head (standing j.entries) }
 {
     let counts = t.counts;
     if counts.standing == 0 {
@@ -29,7 +29,7 @@ fn total_in(t: Summary, flagged: u16) -> i64
 // A journal counts no more reads than it has days, so that their number fits two bytes.
 fn report_of(t: Summary) -> Report
     requires { (t.head.carry.folded + t.counts.standing ≤ 65535) × (t.head.carry.flagged + t.counts.flagged ≤ 65535) }
-    ensures { (j : Journal) → t ≡ summaryOf j → result ≡ reportOf j }
+    ensures { (j : Journal) → t ≡ summary_of j → result ≡ report_of j }
 {
     let head = t.head;
     let carry = head.carry;
@@ -45,7 +45,7 @@ fn report_of(t: Summary) -> Report
 
 fn report_area(area: &[u8]) -> Report
     requires { length area.now ≡ area_bytes }
-    ensures { acted (Reply.Reported result) area.now ≡ reportIn area.now }
+    ensures { acted (Reply.Reported result) area.now ≡ report_in area.now }
 {
     let judgement = judge_area(area, 0, 0);
     let found = judgement.found;

@@ -1,7 +1,7 @@
 // Search: the standing read of a day, and how many standing days were compared to find it.
 ghost use Rattle.std.specs.Prelude.{◌≡◌, length};
 ghost use Rattle.register.specs.Area.{area_bytes};
-ghost use Rattle.meter.specs.Search.{refusedSearch, searchIn, searchOf};
+ghost use Rattle.meter.specs.Search.{refused_search, search_in, search_of};
 
 use judge::area::{Judged, judge_area};
 use place::{Located, locate};
@@ -20,7 +20,7 @@ pub struct Searched {
 
 // A number with nothing found and no day compared.
 fn refuse_search(number: u8) -> Searched
-    ensures { result ≡ refusedSearch number }
+    ensures { result ≡ refused_search number }
 {
     Searched {
         number,
@@ -31,7 +31,7 @@ fn refuse_search(number: u8) -> Searched
 
 fn search_in(area: &[u8], day: u16) -> Searched
     requires { length area.now ≡ area_bytes }
-    ensures { result ≡ searchIn day area.now }
+    ensures { result ≡ search_in day area.now }
 {
     let judgement = judge_area(area, 0, 0);
     let found = judgement.found;
@@ -52,7 +52,7 @@ fn search_in(area: &[u8], day: u16) -> Searched
 
 // The read that stands on a day, with the number of a report: 0, 2, 3 or 4.
 pub fn search(register: &[u8], place: u16, day: u16) -> Searched
-    ensures { result ≡ searchOf place day register.now }
+    ensures { result ≡ search_of place day register.now }
 {
     match locate(register, place) {
         Located::Refused(number) => refuse_search(number),

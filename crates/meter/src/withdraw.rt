@@ -1,13 +1,13 @@
 // Withdraw: the last standing read is marked withdrawn, and its advance taken back.
 ghost use Rattle.std.specs.Prelude.{◌≡◌, neg_ℤ, length};
 ghost use Rattle.terms.specs.Entry.{slot_at};
-ghost use Rattle.terms.specs.Rule.{firstBroken};
-ghost use Rattle.rules.specs.Volume.{advanceOver};
+ghost use Rattle.terms.specs.Rule.{first_broken};
+ghost use Rattle.rules.specs.Volume.{advance_over};
 ghost use Rattle.register.specs.Area.{area_bytes};
-ghost use Rattle.journal.specs.Journal.{Journal, journalOf, standing};
-ghost use Rattle.judge.specs.Inner.Judged.{summaryOf, Counted};
-ghost use Rattle.calls.specs.Checks.{isNotLast, withdrawRules};
-ghost use Rattle.calls.specs.Calls.{acted, withdrawnAnswer, withdrawnBytes, withdrawIn, done, step};
+ghost use Rattle.journal.specs.Journal.{Journal, journal_of, standing};
+ghost use Rattle.judge.specs.Inner.Judged.{summary_of, Counted};
+ghost use Rattle.calls.specs.Checks.{is_not_last, withdraw_rules};
+ghost use Rattle.calls.specs.Calls.{acted, withdrawn_answer, withdrawn_bytes, withdraw_in, done, step};
 ghost use Rattle.meter.specs.Inner.Withdrawal.{Decides};
 
 use arithmetic::advance::advance;
@@ -32,7 +32,7 @@ pub enum Decided {
 
 // The last standing read has another day or value, or there is none. What was counted has both, so no entry is read.
 fn is_not_last(t: Summary, day: u16, value: u32) -> bool
-    ensures { (j : Journal) → t ≡ summaryOf j → result ≡ isNotLast day value (slot_at (standing j.entries) 0) }
+    ensures { (j : Journal) → t ≡ summary_of j → result ≡ is_not_last day value (slot_at (standing j.entries) 0) }
 {
     let counts = t.counts;
     !((0 < counts.standing) & ((t.day == day) & (t.last == value)))
@@ -42,7 +42,7 @@ fn is_not_last(t: Summary, day: u16, value: u32) -> bool
 // oldest too.
 fn check_withdrawal(area: &[u8], t: Summary, day: u16, value: u32) -> u8
     requires { Counted area.now t }
-    ensures { result ≡ firstBroken (withdrawRules day value (journalOf area.now)) }
+    ensures { result ≡ first_broken (withdraw_rules day value (journal_of area.now)) }
 {
     if is_not_last(t, day, value) {
         if has_standing(area, t, day, value) {
@@ -80,7 +80,7 @@ fn decide_withdrawal(area: &[u8], day: u16, value: u32) -> Decided
 
 // The advance of a read over the one before it, negated. The match bounds that one's value, so the negation fits.
 fn take_back(n: u8, r0: Entry, second: Slot) -> i64
-    ensures { result ≡ neg_ℤ (advanceOver n r0.value r0.flag second) }
+    ensures { result ≡ neg_ℤ (advance_over n r0.value r0.flag second) }
 {
     match second {
         Slot::Read(r1) => -advance(n, r0.value, r0.flag, r1.value),
@@ -90,7 +90,7 @@ fn take_back(n: u8, r0: Entry, second: Slot) -> i64
 
 // The last read's flag and its advance negated.
 fn withdrawn_answer(n: u8, last: Slot, second: Slot) -> Answer
-    ensures { result ≡ withdrawnAnswer n last second }
+    ensures { result ≡ withdrawn_answer n last second }
 {
     match last {
         Slot::Read(r0) => Answer {
@@ -104,7 +104,7 @@ fn withdrawn_answer(n: u8, last: Slot, second: Slot) -> Answer
 
 // The entry at byte `newest` is marked; a held one, at byte `end`, is zeroed.
 fn mark_withdrawn(area: &mut [u8], newest: u16, end: u16, held: bool)
-    ensures { area.new ≡ withdrawnBytes newest end held area.old }
+    ensures { area.new ≡ withdrawn_bytes newest end held area.old }
 {
     put_byte(area, newest as usize, Kind::WITHDRAWN);
     if held {
@@ -126,7 +126,7 @@ fn mark_withdrawn(area: &mut [u8], newest: u16, end: u16, held: bool)
 // The call on the area that it names. All entries but a held one are kept.
 fn withdraw_in(area: &mut [u8], day: u16, value: u32) -> Answer
     requires { length area.old ≡ area_bytes }
-    ensures { acted (Reply.Answered result) area.new ≡ withdrawIn day value area.old }
+    ensures { acted (Reply.Answered result) area.new ≡ withdraw_in day value area.old }
 {
     match decide_withdrawal(area, day, value) {
         Decided::Refused(number) => refuse(number),

@@ -6,8 +6,8 @@ use Rattle.terms.specs.declared.entry.Slot.TheVariants.{Read, Empty}
 use Rattle.meter.specs.declared.search.Searched.{Searched}
 use Rattle.necktureen.specs.declared.search.SearchFields.{SearchFields}
 
-abbrev pub searchFields : ℕ → ℕ → ℕ → ℕ → ℕ → ℕ → ℕ → SearchFields
-searchFields number found value letter indicator flag compared =
+abbrev pub search_fields : ℕ → ℕ → ℕ → ℕ → ℕ → ℕ → ℕ → SearchFields
+search_fields number found value letter indicator flag compared =
     record {
       number = number;
       found = found;
@@ -18,9 +18,9 @@ searchFields number found value letter indicator flag compared =
       compared = compared;
     }
 
-unfoldable pub fieldsWith : ℕ → Slot → ℕ → SearchFields
-fieldsWith number (Read e) compared = searchFields number 1 e.value e.letter e.indicator e.flag compared
-fieldsWith number Empty compared = searchFields number 0 0 0 0 0 compared
+unfoldable pub fields_with : ℕ → Slot → ℕ → SearchFields
+fields_with number (Read e) compared = search_fields number 1 e.value e.letter e.indicator e.flag compared
+fields_with number Empty compared = search_fields number 0 0 0 0 0 compared
 
 abbrev pub fields_of : Searched → SearchFields
-fields_of s = fieldsWith s.number s.found s.compared
+fields_of s = fields_with s.number s.found s.compared

@@ -8,34 +8,34 @@ use Rattle.calls.specs.declared.call.Call.TheVariants as call
 use Rattle.calls.specs.declared.call.Reply.{Reply}
 use Rattle.calls.specs.declared.call.Reply.TheVariants.{Answered, Reported}
 use Rattle.calls.specs.Calls.{step}
-use Rattle.calls.specs.Play.{Exchange, exchange, registerAfter, zeroRegister, number_of, names}
-use Rattle.calls.specs.DemandThree.{runA}
+use Rattle.calls.specs.Play.{Exchange, exchange, register_after, zero_register, number_of, names}
+use Rattle.calls.specs.DemandThree.{run_a}
 use Rattle.sheet.specs.declared.form.Form.{Form}
 use Rattle.sheet.specs.declared.form.Form.TheVariants.{Enrol, Submit, Withdraw, Report, Fold}
 use Rattle.sheet.specs.declared.form.Kind.{Kind}
 use Rattle.sheet.specs.declared.form.Kind.TheVariants.{Known, Unknown}
-use Rattle.sheet.specs.Sheet.{kindByte, kind_of}
+use Rattle.sheet.specs.Sheet.{kind_byte, kind_of}
 use Rattle.tally.specs.declared.tally.Tally.{Tally}
-use Rattle.tally.specs.Tally.{zeroTally, tallyReport}
-use Rattle.tally.specs.Change.{tallyAfter}
-use Rattle.tally.specs.Kept.{areDated}
+use Rattle.tally.specs.Tally.{zero_tally, tally_report}
+use Rattle.tally.specs.Change.{tally_after}
+use Rattle.tally.specs.Kept.{are_dated}
 
 -- the call that is told: a tally asks for none of the fields that are 0 here
-unfoldable pub toldCall : Form → ℕ → ℕ → Call
-toldCall (Enrol profile) dials value = call.Enrol 0 profile dials 0
-toldCall Submit dials value =
+unfoldable pub told_call : Form → ℕ → ℕ → Call
+told_call (Enrol profile) dials value = call.Enrol 0 profile dials 0
+told_call Submit dials value =
     call.Submit 0 (record { submitted = 0; day = 0; value = value; letter = 0; indicator = 0; reread = 0 })
-toldCall Withdraw dials value = call.Withdraw 0 0 0
-toldCall Report dials value = call.Report 0
-toldCall Fold dials value = call.Fold 0
+told_call Withdraw dials value = call.Withdraw 0 0 0
+told_call Report dials value = call.Report 0
+told_call Fold dials value = call.Fold 0
 
 -- the tally after a call of this kind; an unknown kind changes nothing
-unfoldable pub toldKind : Kind → ℕ → ℕ → Answer → Tally → Tally
-toldKind (Known form) dials value a t = tallyAfter (toldCall form dials value) (Answered a) t
-toldKind Unknown dials value a t = t
+unfoldable pub told_kind : Kind → ℕ → ℕ → Answer → Tally → Tally
+told_kind (Known form) dials value a t = tally_after (told_call form dials value) (Answered a) t
+told_kind Unknown dials value a t = t
 
-unfoldable pub toldOf : ℕ → ℕ → ℕ → ℕ → ℕ → ℤ → Tally → Tally
-toldOf kind dials value number flag advance t = toldKind (kind_of kind) dials value (answer number flag advance) t
+unfoldable pub told_of : ℕ → ℕ → ℕ → ℕ → ℕ → ℤ → Tally → Tally
+told_of kind dials value number flag advance t = told_kind (kind_of kind) dials value (answer number flag advance) t
 
 -- ---- what there is to tell. Where there is nothing, as of the dials of a submission, a program may tell any number: none is looked at.
 pub record Told : Type 0 where
@@ -51,21 +51,21 @@ told kind dials value number flag advance =
     record { kind = kind; dials = dials; value = value; number = number; flag = flag; advance = advance }
 
 -- A trial has no kind: 0, which is none, tells of nothing.
-unfoldable pub kindTold : Call → ℕ
-kindTold (call.Enrol place profile dials capacity) = kindByte (Enrol profile)
-kindTold (call.Submit place s) = kindByte Submit
-kindTold (call.Withdraw place day value) = kindByte Withdraw
-kindTold (call.Report place) = kindByte Report
-kindTold (call.Fold place) = kindByte Fold
-kindTold (call.Trial place s) = 0
+unfoldable pub kind_told : Call → ℕ
+kind_told (call.Enrol place profile dials capacity) = kind_byte (Enrol profile)
+kind_told (call.Submit place s) = kind_byte Submit
+kind_told (call.Withdraw place day value) = kind_byte Withdraw
+kind_told (call.Report place) = kind_byte Report
+kind_told (call.Fold place) = kind_byte Fold
+kind_told (call.Trial place s) = 0
 
-unfoldable pub dialsOf : Call → ℕ → ℕ
-dialsOf (call.Enrol place profile dials capacity) any = dials
-dialsOf (call.Submit place s) any = any
-dialsOf (call.Withdraw place day value) any = any
-dialsOf (call.Report place) any = any
-dialsOf (call.Fold place) any = any
-dialsOf (call.Trial place s) any = any
+unfoldable pub dials_of : Call → ℕ → ℕ
+dials_of (call.Enrol place profile dials capacity) any = dials
+dials_of (call.Submit place s) any = any
+dials_of (call.Withdraw place day value) any = any
+dials_of (call.Report place) any = any
+dials_of (call.Fold place) any = any
+dials_of (call.Trial place s) any = any
 
 unfoldable pub value_of : Call → ℕ → ℕ
 value_of (call.Enrol place profile dials capacity) any = any
@@ -75,52 +75,52 @@ value_of (call.Report place) any = any
 value_of (call.Fold place) any = any
 value_of (call.Trial place s) any = any
 
-unfoldable pub flagTold : Reply → ℕ → ℕ
-flagTold (Answered a) any = a.flag
-flagTold (Reported r) any = any
+unfoldable pub flag_told : Reply → ℕ → ℕ
+flag_told (Answered a) any = a.flag
+flag_told (Reported r) any = any
 
-unfoldable pub advanceTold : Reply → ℤ → ℤ
-advanceTold (Answered a) any = a.advance
-advanceTold (Reported r) any = any
+unfoldable pub advance_told : Reply → ℤ → ℤ
+advance_told (Answered a) any = a.advance
+advance_told (Reported r) any = any
 
-unfoldable pub exchangeTold : Exchange → Told → Told
-exchangeTold x any =
+unfoldable pub exchange_told : Exchange → Told → Told
+exchange_told x any =
     told
-    (kindTold x.call)
-    (dialsOf x.call any.dials)
+    (kind_told x.call)
+    (dials_of x.call any.dials)
     (value_of x.call any.value)
     (number_of x.reply)
-    (flagTold x.reply any.flag)
-    (advanceTold x.reply any.advance)
+    (flag_told x.reply any.flag)
+    (advance_told x.reply any.advance)
 
 -- the tally after it
-unfoldable pub toldBy : Told → Tally → Tally
-toldBy said t = toldOf said.kind said.dials said.value said.number said.flag said.advance t
+unfoldable pub told_by : Told → Tally → Tally
+told_by said t = told_of said.kind said.dials said.value said.number said.flag said.advance t
 
 -- THE CLAIM for one call, on every register: that is enough. The tally is changed as by the call itself and its reply.
 unfoldable pub ToldIsEnough : Type 0
 ToldIsEnough =
     (c : Call) (register : List ℕ) (any : Told) (t : Tally)
-    → toldBy (exchangeTold (exchange c (step c register).reply) any) t ≡ tallyAfter c (step c register).reply t
+    → told_by (exchange_told (exchange c (step c register).reply) any) t ≡ tally_after c (step c register).reply t
 
 -- ---- "after every answered call on that meter": what is told over a list. What is told where there is nothing to tell may be another each time:
 -- `any` goes by how many calls follow.
-abbrev pub toldIf : Bool → Told → List Told → List Told
-toldIf true said rest = said ∷ rest
-toldIf false said rest = rest
+abbrev pub told_if : Bool → Told → List Told → List Told
+told_if true said rest = said ∷ rest
+told_if false said rest = rest
 
-unfoldable pub allTold : ℕ → (ℕ → Told) → List Exchange → List Told
-allTold meter any [] = []
-allTold meter any (x ∷ xs) =
-    toldIf (names meter x.call) (exchangeTold x (any (length xs))) (allTold meter any xs)
+unfoldable pub all_told : ℕ → (ℕ → Told) → List Exchange → List Told
+all_told meter any [] = []
+all_told meter any (x ∷ xs) =
+    told_if (names meter x.call) (exchange_told x (any (length xs))) (all_told meter any xs)
 
-unfoldable pub toldOver : List Told → Tally → Tally
-toldOver [] t = t
-toldOver (said ∷ rest) t = toldOver rest (toldBy said t)
+unfoldable pub told_over : List Told → Tally → Tally
+told_over [] t = t
+told_over (said ∷ rest) t = told_over rest (told_by said t)
 
 -- THE CLAIM for a list: as a program in C keeps it too, "from an all-zero register and tally, a report from it always equals a full report, after
 -- folds and withdrawals too"
 unfoldable pub ToldTalliesReport : Type 0
 ToldTalliesReport =
-    (meter : ℕ) (any : ℕ → Told) (calls : List Call) → areDated calls ≡ true
-    → Reported (tallyReport (toldOver (allTold meter any (runA calls)) zeroTally)) ≡ (step (call.Report meter) (registerAfter calls zeroRegister)).reply
+    (meter : ℕ) (any : ℕ → Told) (calls : List Call) → are_dated calls ≡ true
+    → Reported (tally_report (told_over (all_told meter any (run_a calls)) zero_tally)) ≡ (step (call.Report meter) (register_after calls zero_register)).reply

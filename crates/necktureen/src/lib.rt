@@ -1,14 +1,14 @@
 // The calls for a program in C or Rust: numbers and byte slices alone, no promise asked of the caller. Each answers its number and puts the
 // other fields where the caller says. A tally, which the caller keeps, and the calendar stand beside them.
 ghost use Rattle.std.specs.Prelude.{◌≡◌};
-ghost use Rattle.calendar.specs.Date.{date, dateOf, dayOf};
+ghost use Rattle.calendar.specs.Date.{date, date_of, day_of};
 ghost use Rattle.terms.specs.Answer.{answer, reported};
-ghost use Rattle.calls.specs.Calls.{done, step, journalLength};
-ghost use Rattle.meter.specs.Search.{searchOf};
+ghost use Rattle.calls.specs.Calls.{done, step, journal_length};
+ghost use Rattle.meter.specs.Search.{search_of};
 ghost use Rattle.playing.specs.Whole.{Played};
-ghost use Rattle.tally.specs.Tally.{tallyReport};
-ghost use Rattle.necktureen.specs.Search.{searchFields, fields_of};
-ghost use Rattle.necktureen.specs.Told.{toldOf};
+ghost use Rattle.tally.specs.Tally.{tally_report};
+ghost use Rattle.necktureen.specs.Search.{search_fields, fields_of};
+ghost use Rattle.necktureen.specs.Told.{told_of};
 
 use crate::search::search_fields;
 use crate::told::told;
@@ -175,7 +175,7 @@ pub extern "C" fn necktureen_report(
 // How long the meter's journal is, from 512 × place on: 0 where a report is refused.
 #[unsafe(no_mangle)]
 pub extern "C" fn necktureen_journal(register: &[u8], place: u16) -> usize
-    ensures { result ≡ journalLength place register.now }
+    ensures { result ≡ journal_length place register.now }
 {
     meter::part::journal_length(register, place)
 }
@@ -193,7 +193,7 @@ pub extern "C" fn necktureen_search(
     flag: &mut u8,
     compared: &mut u8,
 ) -> u8
-    ensures { searchFields result found.new value.new letter.new indicator.new flag.new compared.new ≡ fields_of (searchOf place day register.now) }
+    ensures { search_fields result found.new value.new letter.new indicator.new flag.new compared.new ≡ fields_of (search_of place day register.now) }
 {
     let a = search_fields(meter::search::search(register, place, day));
     *found = a.found;
@@ -224,13 +224,13 @@ pub extern "C" fn necktureen_tally_change(
     flag: u8,
     advance: i64,
 )
-    ensures { tally.new ≡ toldOf kind dials value number flag advance tally.old }
+    ensures { tally.new ≡ told_of kind dials value number flag advance tally.old }
 {
     *tally = told(*tally, kind, dials, value, number, flag, advance);
 }
 
 fn put_report(t: Tally, standing: &mut u16, flagged: &mut u16, total: &mut i64) -> u8
-    ensures { reported result standing.new flagged.new total.new ≡ tallyReport t }
+    ensures { reported result standing.new flagged.new total.new ≡ tally_report t }
 {
     let a = report_tally(t);
     let sum = a.total;
@@ -248,7 +248,7 @@ pub extern "C" fn necktureen_tally_report(
     flagged: &mut u16,
     total: &mut i64,
 ) -> u8
-    ensures { reported result standing.new flagged.new total.new ≡ tallyReport tally.now }
+    ensures { reported result standing.new flagged.new total.new ≡ tally_report tally.now }
 {
     put_report(*tally, standing, flagged, total)
 }
@@ -261,7 +261,7 @@ pub extern "C" fn necktureen_date_of(
     month: &mut u8,
     day_of_month: &mut u8,
 )
-    ensures { date year.new month.new day_of_month.new ≡ dateOf day }
+    ensures { date year.new month.new day_of_month.new ≡ date_of day }
 {
     let found = calendar::conversion::date_of(day);
     *year = found.year;
@@ -272,7 +272,7 @@ pub extern "C" fn necktureen_date_of(
 // The day of a date: 0 for one that is not in the calendar or has no day number.
 #[unsafe(no_mangle)]
 pub extern "C" fn necktureen_day_of(year: u16, month: u8, day_of_month: u8) -> u16
-    ensures { result ≡ dayOf (date year month day_of_month) }
+    ensures { result ≡ day_of (date year month day_of_month) }
 {
     calendar::conversion::day_of(Date {
         year,

@@ -1,7 +1,7 @@
 // What a program in C tells of a call and its answer, and the tally after it.
 ghost use Rattle.std.specs.Prelude.{◌≡◌};
 ghost use Rattle.necktureen.specs.Examples.{ToldExamplesHold};
-ghost use Rattle.necktureen.specs.Told.{toldCall, toldOf, ToldIsEnough, ToldTalliesReport};
+ghost use Rattle.necktureen.specs.Told.{told_call, told_of, ToldIsEnough, ToldTalliesReport};
 
 use calls::call::{Call, Reply};
 use sheet::form::{Form, Kind, kind_of};
@@ -12,7 +12,7 @@ use terms::submission::Submission;
 
 // A tally asks for nothing of a call but its kind, an enrolment's dials and a submission's value.
 fn told_call(form: Form, dials: u8, value: u32) -> Call
-    ensures { result ≡ toldCall form dials value }
+    ensures { result ≡ told_call form dials value }
 {
     match form {
         Form::Enrol(profile) => Call::Enrol {
@@ -51,7 +51,7 @@ pub(crate) fn told(
     flag: u8,
     advance: i64,
 ) -> Tally
-    ensures { result ≡ toldOf kind dials value number flag advance t }
+    ensures { result ≡ told_of kind dials value number flag advance t }
 {
     let a = Answer {
         number,

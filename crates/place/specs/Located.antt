@@ -2,20 +2,20 @@
 use Rattle.std.specs.Prelude.{◌≡◌, cond, List, ℕ, ◌*◌, eqb}
 use Rattle.terms.specs.Number.{accepted}
 use Rattle.register.specs.Area.{area_bytes}
-use Rattle.calls.specs.Calls.{placeNumber}
+use Rattle.calls.specs.Calls.{place_number}
 use Rattle.place.specs.declared.Located.{Located}
 use Rattle.place.specs.declared.Located.TheVariants.{Refused, At}
 
 unfoldable pub located : ℕ → List ℕ → Located
 located place register =
-    cond (eqb (placeNumber place register) accepted) (At (area_bytes * place)) (Refused (placeNumber place register))
+    cond (eqb (place_number place register) accepted) (At (area_bytes * place)) (Refused (place_number place register))
 
 -- the paper's number for each case
-unfoldable pub locatedNumber : Located → ℕ
-locatedNumber (Refused number) = number
-locatedNumber (At start) = accepted
+unfoldable pub located_number : Located → ℕ
+located_number (Refused number) = number
+located_number (At start) = accepted
 
 -- what is answered: where the area starts or why not, and with it the number of the calls' first checks
 pub record Locates (place : ℕ) (register : List ℕ) (found : Located) : Type 0 where
-  pub found-is : found ≡ located place register
-  pub number_is : locatedNumber found ≡ placeNumber place register
+  pub found_is : found ≡ located place register
+  pub number_is : located_number found ≡ place_number place register

@@ -1,6 +1,6 @@
 // One entry of a sheet played: its call carried out on the register, and the line put into bytes that are lent.
 ghost use Rattle.lines.specs.Put.{Put};
-ghost use Rattle.playing.specs.Whole.{faultLine};
+ghost use Rattle.playing.specs.Whole.{fault_line};
 ghost use Rattle.playing.specs.Inner.Turn.{state, Due, Turned};
 
 use crate::apply::apply;
@@ -18,7 +18,7 @@ pub struct Progress {
 }
 
 pub(crate) fn put_fault(out: &mut [u8], at: u32) -> usize
-    ensures { Put out.old at faultLine out.new result }
+    ensures { Put out.old at fault_line out.new result }
 {
     put_reply(out, at, Reply::Answered(refuse(Number::SHEET)))
 }

@@ -10,11 +10,11 @@ use lib.ListN.{length, take, drop, length-drop}
 use lib.Seq.{take_all}
 use Rattle.register.specs.Area.{area_bytes}
 use Rattle.register.specs.declared.head.Head.{Head}
-use Rattle.register.specs.Entries.{entryStart}
-use Rattle.register.specs.Head.{headBytes, mostEntries}
-use Rattle.register.proofs.Body.{head-room, head_small}
-use Rattle.journal.proofs.Bools.{false-is, both}
-use Rattle.reads.specs.Inner.Room.{hasRoom}
+use Rattle.register.specs.Entries.{entry_start}
+use Rattle.register.specs.Head.{head_bytes, most_entries}
+use Rattle.register.proofs.Body.{head_room, head_small}
+use Rattle.journal.proofs.Bools.{false_is, both}
+use Rattle.reads.specs.Inner.Room.{has_room}
 
 -- ---- a test before that answers too
 pub refused : (x b : Bool) → x || not b ≡ true → (x ≡ false → b ≡ true) → x ≡ true
@@ -23,32 +23,32 @@ refused false true h g = h
 refused false false h g = g refl
 
 pub allowed : (x b : Bool) → x || not b ≡ false → (x ≡ false) × (b ≡ true)
-allowed true b h = false-is (sym h)
+allowed true b h = false_is (sym h)
 allowed false true h = (refl, refl)
-allowed false false h = false-is (sym h)
+allowed false false h = false_is (sym h)
 
 -- ---- what is lent from the head's end on
-pub lent_is : (a : List ℕ) (head : Head) {start : ℕ} → start ≡ headBytes head → take (length a - start) (drop start a) ≡ drop (headBytes head) a
+pub lent_is : (a : List ℕ) (head : Head) {start : ℕ} → start ≡ head_bytes head → take (length a - start) (drop start a) ≡ drop (head_bytes head) a
 lent_is a head {start} e = rw (take_all (length a - start) (drop start a) (simp length-drop (omega arith)), e)
 
-pub room-is : (a : List ℕ) (head : Head) (m : ℕ) → length a ≡ area_bytes → m ≤ mostEntries head → hasRoom a head m ≡ true
-unfolding hasRoom
-room-is a head m long few = rw (eq-eqb (length a) area_bytes long, le-leb m (mostEntries head) few)
+pub room_is : (a : List ℕ) (head : Head) (m : ℕ) → length a ≡ area_bytes → m ≤ most_entries head → has_room a head m ≡ true
+unfolding has_room
+room_is a head m long few = rw (eq-eqb (length a) area_bytes long, le-leb m (most_entries head) few)
 
-module _ (a : List ℕ) (head : Head) (m : ℕ) {start : ℕ} (room : hasRoom a head m ≡ true) (starts : start ≡ headBytes head) where
+module _ (a : List ℕ) (head : Head) (m : ℕ) {start : ℕ} (room : has_room a head m ≡ true) (starts : start ≡ head_bytes head) where
   long : length a ≡ area_bytes
-  unfolding hasRoom
-  long = eqb-true (length a) area_bytes (both (eqb (length a) area_bytes) (leb m (mostEntries head)) room).0
+  unfolding has_room
+  long = eqb-true (length a) area_bytes (both (eqb (length a) area_bytes) (leb m (most_entries head)) room).0
 
-  few : m ≤ mostEntries head
-  unfolding hasRoom
-  few = leb-true m (mostEntries head) (both (eqb (length a) area_bytes) (leb m (mostEntries head)) room).1
+  few : m ≤ most_entries head
+  unfolding has_room
+  few = leb-true m (most_entries head) (both (eqb (length a) area_bytes) (leb m (most_entries head)) room).1
 
-  pub few-entries : m < 256
-  few-entries = omega (arith, few, head-room head)
+  pub few_entries : m < 256
+  few_entries = omega (arith, few, head_room head)
 
-  pub start-room : start ≤ length a
-  start-room = omega (arith, starts, long, head_small head)
+  pub start_room : start ≤ length a
+  start_room = omega (arith, starts, long, head_small head)
 
-  pub lent-room : entryStart m ≤ length (take (length a - start) (drop start a))
-  lent-room = rw (lent_is a head starts, length-drop (headBytes head) a) (omega (arith, long, few, head-room head))
+  pub lent_room : entry_start m ≤ length (take (length a - start) (drop start a))
+  lent_room = rw (lent_is a head starts, length-drop (head_bytes head) a) (omega (arith, long, few, head_room head))

@@ -2,15 +2,15 @@
 use mathlib.Core.Path.{◌≡◌}
 use Prim.Native.Nat.{◌+◌}
 use Rattle.journal.specs.Journal.{Journal, standing}
-use Rattle.journal.specs.Total.{flaggedOf, standingIn, flaggedIn}
+use Rattle.journal.specs.Total.{flagged_of, standing_in, flagged_in}
 use Rattle.judge.specs.declared.area.Summary.{Summary}
-use Rattle.judge.specs.Inner.Judged.{countsOf, summaryOf}
+use Rattle.judge.specs.Inner.Judged.{counts_of, summary_of}
 
-module _ (j : Journal) (t : Summary) (is : t ≡ summaryOf j) where
-  pub standing-counted : t.head.carry.folded + t.counts.standing ≡ standingIn j.head (standing j.entries)
-  unfolding summaryOf countsOf standingIn
-  standing-counted = rw is
+module _ (j : Journal) (t : Summary) (is : t ≡ summary_of j) where
+  pub standing_counted : t.head.carry.folded + t.counts.standing ≡ standing_in j.head (standing j.entries)
+  unfolding summary_of counts_of standing_in
+  standing_counted = rw is
 
-  pub flagged-counted : t.head.carry.flagged + t.counts.flagged ≡ flaggedIn j.head (standing j.entries)
-  unfolding summaryOf countsOf flaggedIn flaggedOf
-  flagged-counted = rw is
+  pub flagged_counted : t.head.carry.flagged + t.counts.flagged ≡ flagged_in j.head (standing j.entries)
+  unfolding summary_of counts_of flagged_in flagged_of
+  flagged_counted = rw is

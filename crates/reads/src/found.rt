@@ -1,7 +1,7 @@
 // What stands of a day and a value that a call names.
 ghost use Rattle.std.specs.Prelude.{◌≡◌};
-ghost use Rattle.journal.specs.Journal.{journalOf, standing, onDay};
-ghost use Rattle.journal.specs.Sound.{any, hasRead};
+ghost use Rattle.journal.specs.Journal.{journal_of, standing, on_day};
+ghost use Rattle.journal.specs.Sound.{any, has_read};
 ghost use Rattle.judge.specs.Inner.Judged.{Counted};
 
 use crate::search::search_day;
@@ -10,7 +10,7 @@ use terms::entry::Slot;
 
 // The read that stands on a day.
 pub fn read_on(area: &[u8], t: Summary, day: u16) -> Slot
-    ensures { Counted area.now t → result ≡ onDay day (standing (journalOf area.now).entries) }
+    ensures { Counted area.now t → result ≡ on_day day (standing (journal_of area.now).entries) }
 {
     let answer = search_day(area, t, day);
     answer.found
@@ -18,7 +18,7 @@ pub fn read_on(area: &[u8], t: Summary, day: u16) -> Slot
 
 // A read with this day and value stands. One read at most stands on a day.
 pub fn has_standing(area: &[u8], t: Summary, day: u16, value: u32) -> bool
-    ensures { Counted area.now t → result ≡ any (hasRead day value) (standing (journalOf area.now).entries) }
+    ensures { Counted area.now t → result ≡ any (has_read day value) (standing (journal_of area.now).entries) }
 {
     match read_on(area, t, day) {
         Slot::Read(e) => e.value == value,

@@ -1,6 +1,6 @@
 // The held read.
 ghost use Rattle.std.specs.Prelude.{◌≡◌};
-ghost use Rattle.journal.specs.Journal.{journalOf, held_of};
+ghost use Rattle.journal.specs.Journal.{journal_of, held_of};
 ghost use Rattle.judge.specs.Inner.Judged.{Counted};
 
 use crate::room::entry_in;
@@ -9,7 +9,7 @@ use terms::entry::Slot;
 
 // All entries but a held one are kept, and a held one is the last.
 pub fn held(area: &[u8], t: Summary) -> Slot
-    ensures { Counted area.now t → result ≡ held_of (journalOf area.now).entries }
+    ensures { Counted area.now t → result ≡ held_of (journal_of area.now).entries }
 {
     let counts = t.counts;
     if counts.kept == t.entries {

@@ -1,8 +1,8 @@
 // The last standing reads: the last by its position, those before it by stepping back.
 ghost use Rattle.std.specs.Prelude.{◌≡◌, ◌∷◌, ◌+◌, ◌≤◌, length};
-ghost use Rattle.terms.specs.Entry.{slot_at, recentOf};
-ghost use Rattle.register.specs.Entries.{entryStart, entryAt};
-ghost use Rattle.journal.specs.Journal.{journalOf, entriesTo, standing};
+ghost use Rattle.terms.specs.Entry.{slot_at, recent_of};
+ghost use Rattle.register.specs.Entries.{entry_start, entry_at};
+ghost use Rattle.journal.specs.Journal.{journal_of, entries_to, standing};
 ghost use Rattle.reads.specs.Inner.Back.{EndsStanding};
 ghost use Rattle.judge.specs.Inner.Judged.{Counted};
 
@@ -15,7 +15,7 @@ use terms::entry::{Kind, Recent, Slot};
 
 // How many of the first m entries are left when those after the last standing one are taken off.
 fn back(body: &[u8], m: u8) -> u8
-    requires { entryStart m ≤ length body.now }
+    requires { entry_start m ≤ length body.now }
     ensures { EndsStanding body.now m result }
 {
     let mut k = m;
@@ -31,8 +31,8 @@ fn back(body: &[u8], m: u8) -> u8
 
 // The last standing one of the first m entries.
 fn last_over(body: &[u8], m: u8) -> Slot
-    requires { entryStart m ≤ length body.now }
-    ensures { result ≡ slot_at (standing (entriesTo m body.now)) 0 }
+    requires { entry_start m ≤ length body.now }
+    ensures { result ≡ slot_at (standing (entries_to m body.now)) 0 }
 {
     let b = back(body, m);
     if b == 0 {
@@ -43,8 +43,8 @@ fn last_over(body: &[u8], m: u8) -> Slot
 
 // The last standing read is the entry after `newest` others.
 fn recent_over(body: &[u8], newest: u8) -> Recent
-    requires { entryStart (newest + 1) ≤ length body.now }
-    ensures { result ≡ recentOf (entryAt body.now (entryStart newest) ∷ standing (entriesTo newest body.now)) }
+    requires { entry_start (newest + 1) ≤ length body.now }
+    ensures { result ≡ recent_of (entry_at body.now (entry_start newest) ∷ standing (entries_to newest body.now)) }
 {
     let last = Slot::Read(entry_at(body, newest));
     let b = back(body, newest);
@@ -66,7 +66,7 @@ fn recent_over(body: &[u8], newest: u8) -> Recent
 
 // The last three standing reads.
 pub fn recent(area: &[u8], t: Summary) -> Recent
-    ensures { Counted area.now t → result ≡ recentOf (standing (journalOf area.now).entries) }
+    ensures { Counted area.now t → result ≡ recent_of (standing (journal_of area.now).entries) }
 {
     let head = t.head;
     let counts = t.counts;
@@ -83,7 +83,7 @@ pub fn recent(area: &[u8], t: Summary) -> Recent
 
 // The last standing read.
 pub fn last(area: &[u8], t: Summary) -> Slot
-    ensures { Counted area.now t → result ≡ slot_at (standing (journalOf area.now).entries) 0 }
+    ensures { Counted area.now t → result ≡ slot_at (standing (journal_of area.now).entries) 0 }
 {
     let counts = t.counts;
     if counts.standing == 0 {
@@ -94,7 +94,7 @@ pub fn last(area: &[u8], t: Summary) -> Slot
 
 // The second last standing read. There is none where one read stands alone.
 pub fn second(area: &[u8], t: Summary) -> Slot
-    ensures { Counted area.now t → result ≡ slot_at (standing (journalOf area.now).entries) 1 }
+    ensures { Counted area.now t → result ≡ slot_at (standing (journal_of area.now).entries) 1 }
 {
     let head = t.head;
     let counts = t.counts;

@@ -1,9 +1,9 @@
 // The search for a standing read of a day, from the newest one back.
 ghost use Rattle.std.specs.Prelude.{◌≡◌, ◌≤◌, ◌<◌, length};
-ghost use Rattle.register.specs.Entries.{entryStart};
-ghost use Rattle.journal.specs.Journal.{journalOf, entriesTo, standing};
+ghost use Rattle.register.specs.Entries.{entry_start};
+ghost use Rattle.journal.specs.Journal.{journal_of, entries_to, standing};
 ghost use Rattle.judge.specs.Inner.Judged.{Counted};
-ghost use Rattle.reads.specs.Search.{notFound, ends_at, searchFrom, searchAnswer};
+ghost use Rattle.reads.specs.Search.{not_found, ends_at, search_from, search_answer};
 
 use crate::read::entry_at;
 use crate::room::has_entry;
@@ -20,7 +20,7 @@ pub struct Search {
 
 // None of that day stands.
 fn not_found(compared: u8) -> Search
-    ensures { result ≡ notFound compared }
+    ensures { result ≡ not_found compared }
 {
     Search {
         found: Slot::Empty,
@@ -46,8 +46,8 @@ fn end_at(e: Entry, day: u16, later: u8) -> Search
 // The search over the first m entries. Standing days rise, so nothing before a day that is not later can be of the day that is asked for.
 // What is withdrawn or held is passed over and not compared.
 fn search_back(body: &[u8], m: u8, day: u16) -> Search
-    requires { entryStart m ≤ length body.now }
-    ensures { result ≡ searchFrom day 0 (standing (entriesTo m body.now)) }
+    requires { entry_start m ≤ length body.now }
+    ensures { result ≡ search_from day 0 (standing (entries_to m body.now)) }
 {
     let mut later: u8 = 0;
     let mut k = m;
@@ -68,7 +68,7 @@ fn search_back(body: &[u8], m: u8, day: u16) -> Search
 // The search begins at the newest standing read. Its day is known, so a day after it is compared with that one and needs no entry. Where none
 // stands `newest` is 0, no entry is searched and nothing is compared.
 pub fn search_day(area: &[u8], t: Summary, day: u16) -> Search
-    ensures { Counted area.now t → result ≡ searchAnswer day (standing (journalOf area.now).entries) }
+    ensures { Counted area.now t → result ≡ search_answer day (standing (journal_of area.now).entries) }
 {
     let head = t.head;
     let counts = t.counts;

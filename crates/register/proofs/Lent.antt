@@ -5,15 +5,15 @@ use mathlib.Core.List.{List, ◌++◌}
 use native.Mathlib.Omega.{arith}
 use lib.ListN.{take, drop}
 use borrow.Rule.Slice.PartMut.{mid_of, put_mid, Post-is}
-use Rattle.register.specs.Area.{area_bytes, areaOf, with_area}
+use Rattle.register.specs.Area.{area_bytes, area_of, with_area}
 
 module _ (p : ℕ) (register : List ℕ) where
   abbrev start : ℕ
   start = area_bytes * p
 
   -- what is lent is the area
-  pub lent : mid_of start (start + area_bytes - start) register ≡ areaOf p register
-  unfolding areaOf
+  pub lent : mid_of start (start + area_bytes - start) register ≡ area_of p register
+  unfolding area_of
   lent =
       let size : start + area_bytes - start ≡ area_bytes = omega arith in
       ap (λ (k : ℕ). take k (drop start register)) size

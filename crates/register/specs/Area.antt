@@ -5,21 +5,21 @@ abbrev pub area_bytes : ℕ
 area_bytes = 512
 
 -- how many areas a register has
-unfoldable pub areasIn : List ℕ → ℕ
-areasIn register = 64
+unfoldable pub areas_in : List ℕ → ℕ
+areas_in register = 64
 
-abbrev pub registerBytes : ℕ
-registerBytes = 32768
+abbrev pub register_bytes : ℕ
+register_bytes = 32768
 
 -- the area of place p
-unfoldable pub areaOf : ℕ → List ℕ → List ℕ
-areaOf p register = take area_bytes (drop (area_bytes * p) register)
+unfoldable pub area_of : ℕ → List ℕ → List ℕ
+area_of p register = take area_bytes (drop (area_bytes * p) register)
 
 -- the register with other bytes in the area of place p
 unfoldable pub with_area : ℕ → List ℕ → List ℕ → List ℕ
 with_area p area register = take (area_bytes * p) register ++ (area ++ drop (area_bytes * p + area_bytes) register)
 
 -- "An area is all zero (not enrolled)"
-unfoldable pub allZero : List ℕ → Bool
-allZero [] = true
-allZero (b ∷ bs) = eqb b 0 && allZero bs
+unfoldable pub all_zero : List ℕ → Bool
+all_zero [] = true
+all_zero (b ∷ bs) = eqb b 0 && all_zero bs

@@ -10,11 +10,11 @@ unfoldable pub word_at : List ℕ → ℕ → ℕ
 word_at bytes i = byte_at bytes i + 256 * byte_at bytes (i + 1)
 
 -- four bytes
-unfoldable pub longAt : List ℕ → ℕ → ℕ
-longAt bytes i = word_at bytes i + 65536 * word_at bytes (i + 2)
+unfoldable pub long_at : List ℕ → ℕ → ℕ
+long_at bytes i = word_at bytes i + 65536 * word_at bytes (i + 2)
 
-unfoldable pub putWord : List ℕ → ℕ → ℕ → List ℕ
-putWord bytes i v = set (set bytes i (v % 256)) (i + 1) (v / 256)
+unfoldable pub put_word : List ℕ → ℕ → ℕ → List ℕ
+put_word bytes i v = set (set bytes i (v % 256)) (i + 1) (v / 256)
 
-unfoldable pub putLong : List ℕ → ℕ → ℕ → List ℕ
-putLong bytes i v = putWord (putWord bytes i (v % 65536)) (i + 2) (v / 65536)
+unfoldable pub put_long : List ℕ → ℕ → ℕ → List ℕ
+put_long bytes i v = put_word (put_word bytes i (v % 65536)) (i + 2) (v / 65536)

@@ -1,6 +1,6 @@
 // The head of an area: what stands before its entries.
 ghost use Rattle.std.specs.Prelude.{◌≡◌};
-ghost use Rattle.register.specs.Head.{no_carry, headBytes, mostEntries, offsetAfter};
+ghost use Rattle.register.specs.Head.{no_carry, head_bytes, most_entries, offset_after};
 
 use crate::area::Layout;
 use terms::profile::Profile;
@@ -53,7 +53,7 @@ pub fn no_carry() -> Carry
 
 // How long a head is: the entries start there.
 pub fn head_bytes(head: Head) -> usize
-    ensures { result ≡ headBytes head }
+    ensures { result ≡ head_bytes head }
 {
     if head.carried {
         return HeadSize::METER_BYTES + HeadSize::CARRY_BYTES;
@@ -63,7 +63,7 @@ pub fn head_bytes(head: Head) -> usize
 
 // The byte of an area at which the entry after k others starts.
 pub fn offset_after(head: Head, k: u8) -> u16
-    ensures { result ≡ offsetAfter head k }
+    ensures { result ≡ offset_after head k }
 {
     let start = head_bytes(head);
     (start + Layout::ENTRY_BYTES * (k as usize)) as u16
@@ -71,7 +71,7 @@ pub fn offset_after(head: Head, k: u8) -> u16
 
 // The most entries that may follow a head.
 pub fn most_entries(head: Head) -> u8
-    ensures { result ≡ mostEntries head }
+    ensures { result ≡ most_entries head }
 {
     if head.carried {
         return HeadSize::MAX_ENTRIES_CARRIED;

@@ -1,9 +1,9 @@
 // Reading numbers, entries and heads out of any bytes whatever: past their end there are zeros. Nothing is asked of a caller, so that every crate
 // can read by these. Where what is lent is a part of known length, the compiler drops the tests of its end.
 ghost use Rattle.std.specs.Prelude.{◌≡◌, cond};
-ghost use Rattle.register.specs.Bytes.{byte_at, word_at, longAt};
-ghost use Rattle.register.specs.Entries.{entryStart, entryAt};
-ghost use Rattle.register.specs.Head.{meterBytes, isCarryAt, carryAt, no_carry, head_of};
+ghost use Rattle.register.specs.Bytes.{byte_at, word_at, long_at};
+ghost use Rattle.register.specs.Entries.{entry_start, entry_at};
+ghost use Rattle.register.specs.Head.{meter_bytes, is_carry_at, carry_at, no_carry, head_of};
 
 use crate::area::Layout;
 use crate::head::{Carry, Head, HeadSize, no_carry};
@@ -31,7 +31,7 @@ pub fn word_at(bytes: &[u8], i: u16) -> u16
 
 // Four bytes.
 pub fn long_at(bytes: &[u8], i: u8) -> u32
-    ensures { result ≡ longAt bytes.now i }
+    ensures { result ≡ long_at bytes.now i }
 {
     let at = i as u16;
     let low = word_at(bytes, at) as u32;
@@ -41,7 +41,7 @@ pub fn long_at(bytes: &[u8], i: u8) -> u32
 
 // The entry that some bytes begin with.
 pub fn entry_of(bytes: &[u8]) -> Entry
-    ensures { result ≡ entryAt bytes.now 0 }
+    ensures { result ≡ entry_at bytes.now 0 }
 {
     Entry {
         kind: byte_at(bytes, 0),
@@ -55,7 +55,7 @@ pub fn entry_of(bytes: &[u8]) -> Entry
 
 // The entry at a byte where the bytes may end: what is past their end is zero.
 fn cut_entry(bytes: &[u8], at: usize) -> Entry
-    ensures { result ≡ entryAt bytes.now at }
+    ensures { result ≡ entry_at bytes.now at }
 {
     if bytes.len() < at {
         return entry_of(&bytes[0..0]);
@@ -65,7 +65,7 @@ fn cut_entry(bytes: &[u8], at: usize) -> Entry
 
 // The entry after k others. One that is there whole is lent as a part of ten bytes.
 pub fn entry_after(body: &[u8], k: u8) -> Entry
-    ensures { result ≡ entryAt body.now (entryStart k) }
+    ensures { result ≡ entry_at body.now (entry_start k) }
 {
     let at = Layout::ENTRY_BYTES * (k as usize);
     let end = at + Layout::ENTRY_BYTES;
@@ -77,7 +77,7 @@ pub fn entry_after(body: &[u8], k: u8) -> Entry
 
 // The carry of an area, and none where the byte after the meter's entry says so.
 fn carry_of(area: &[u8]) -> Carry
-    ensures { result ≡ cond (isCarryAt area.now meterBytes) (carryAt area.now meterBytes) no_carry }
+    ensures { result ≡ cond (is_carry_at area.now meter_bytes) (carry_at area.now meter_bytes) no_carry }
 {
     if byte_at(area, HeadSize::METER_BYTES) != Kind::CARRY {
         return no_carry();

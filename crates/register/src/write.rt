@@ -1,8 +1,8 @@
 // Writing numbers and entries into an area. A byte past the end of what is lent is not written.
 ghost use Rattle.std.specs.Prelude.{◌≡◌, length, set, ◌+◌, ◌<◌, ◌≤◌};
-ghost use Rattle.register.specs.Bytes.{putWord, putLong};
-ghost use Rattle.register.specs.Entries.{entryBytes, putEntry};
-ghost use Rattle.register.specs.Head.{meterBytes, putMeter, putCarry, putHead};
+ghost use Rattle.register.specs.Bytes.{put_word, put_long};
+ghost use Rattle.register.specs.Entries.{entry_bytes, put_entry};
+ghost use Rattle.register.specs.Head.{meter_bytes, put_meter, put_carry, put_head};
 
 use crate::head::{Carry, Head, HeadSize};
 use terms::entry::{Entry, Kind};
@@ -18,7 +18,7 @@ pub fn put_byte(bytes: &mut [u8], i: usize, v: u8)
 
 fn put_word(bytes: &mut [u8], i: usize, v: u16)
     requires { i < 70000 }
-    ensures { bytes.new ≡ putWord bytes.old i v }
+    ensures { bytes.new ≡ put_word bytes.old i v }
 {
     put_byte(bytes, i, (v % 256) as u8);
     put_byte(bytes, i + 1, (v / 256) as u8);
@@ -26,14 +26,14 @@ fn put_word(bytes: &mut [u8], i: usize, v: u16)
 
 fn put_long(bytes: &mut [u8], i: usize, v: u32)
     requires { i < 69000 }
-    ensures { bytes.new ≡ putLong bytes.old i v }
+    ensures { bytes.new ≡ put_long bytes.old i v }
 {
     put_word(bytes, i, (v % 65536) as u16);
     put_word(bytes, i + 2, (v / 65536) as u16);
 }
 
 fn put_meter(area: &mut [u8], head: Head)
-    ensures { area.new ≡ putMeter area.old head }
+    ensures { area.new ≡ put_meter area.old head }
 {
     let profile = head.profile;
     let kind = meter_kind(profile);
@@ -43,7 +43,7 @@ fn put_meter(area: &mut [u8], head: Head)
 }
 
 fn put_carry(area: &mut [u8], carry: Carry)
-    ensures { area.new ≡ putCarry area.old meterBytes carry }
+    ensures { area.new ≡ put_carry area.old meter_bytes carry }
 {
     let at = HeadSize::METER_BYTES;
     put_byte(area, at, Kind::CARRY);
@@ -54,7 +54,7 @@ fn put_carry(area: &mut [u8], carry: Carry)
 
 // The head of an area.
 pub fn put_head(area: &mut [u8], head: Head)
-    ensures { area.new ≡ putHead area.old head }
+    ensures { area.new ≡ put_head area.old head }
 {
     put_meter(area, head);
     if head.carried {
@@ -64,8 +64,8 @@ pub fn put_head(area: &mut [u8], head: Head)
 
 // An entry where all of its bytes are lent, with no test for each of them.
 fn put_within(area: &mut [u8], at: usize, e: Entry)
-    requires { at + entryBytes ≤ length area.old }
-    ensures { area.new ≡ putEntry area.old at e }
+    requires { at + entry_bytes ≤ length area.old }
+    ensures { area.new ≡ put_entry area.old at e }
 {
     area[at] = e.kind;
     area[at + 1] = (e.day % 256) as u8;
@@ -83,7 +83,7 @@ fn put_within(area: &mut [u8], at: usize, e: Entry)
 
 // An entry, at a byte of an area.
 pub fn put_entry(area: &mut [u8], offset: u16, e: Entry)
-    ensures { area.new ≡ putEntry area.old offset e }
+    ensures { area.new ≡ put_entry area.old offset e }
 {
     let at = offset as usize;
     if at + 10 <= area.len() {

@@ -3,34 +3,34 @@
 use Rattle.std.specs.Prelude.{cond, ℕ, eqb}
 
 -- a step back by less than this is small. 02, 5: "The limit is −100 for three dials and −1000 otherwise."
-unfoldable pub stepBack : ℕ → ℕ
-stepBack n = cond (eqb n 3) 100 1000
+unfoldable pub step_back : ℕ → ℕ
+step_back n = cond (eqb n 3) 100 1000
 
 -- the marks near a turn of the dials, in hundredths of the dials' range
-abbrev pub highMark : ℕ
-highMark = 90
+abbrev pub high_mark : ℕ
+high_mark = 90
 
-abbrev pub lowMark : ℕ
-lowMark = 10
+abbrev pub low_mark : ℕ
+low_mark = 10
 
 -- the percentages between which a rate is like the one before
-abbrev pub leastPercent : ℕ
-leastPercent = 20
+abbrev pub least_percent : ℕ
+least_percent = 20
 
-abbrev pub mostPercent : ℕ
-mostPercent = 200
+abbrev pub most_percent : ℕ
+most_percent = 200
 
 -- an advance is small below one part in this many of the dials' range
 abbrev pub fraction : ℕ
 fraction = 10
 
 -- what percentages are parts of
-abbrev pub wholePercent : ℕ
-wholePercent = 100
+abbrev pub whole_percent : ℕ
+whole_percent = 100
 
 -- 01, Volume: 003's limits, in percent of the advance before
-abbrev pub lowPercent : ℕ
-lowPercent = 20
+abbrev pub low_percent : ℕ
+low_percent = 20
 
-abbrev pub highPercent : ℕ
-highPercent = 200
+abbrev pub high_percent : ℕ
+high_percent = 200

@@ -1,7 +1,7 @@
 // Detection: whether a submitted value has passed all nines since the last standing read.
 ghost use Rattle.std.specs.Prelude.{◌≡◌};
-ghost use Rattle.arithmetic.specs.Powers.{tenTo};
-ghost use Rattle.rules.specs.Detection.{is_plain, turnedAdvance, isNearTurn, isLikeRate, isSmallTurn, isSmallAdvance, isSmallStep, isNotRollover, isRollover, detected};
+ghost use Rattle.arithmetic.specs.Powers.{ten_to};
+ghost use Rattle.rules.specs.Detection.{is_plain, turned_advance, is_near_turn, is_like_rate, is_small_turn, is_small_advance, is_small_step, is_not_rollover, is_rollover, detected};
 
 use crate::rate::scaled;
 use crate::settings::Settings;
@@ -26,7 +26,7 @@ fn is_plain(e: Entry) -> bool
 
 // R1 − R0 > −limit.
 fn is_small_step(n: u8, s: Submission, r0: Entry) -> bool
-    ensures { result ≡ isSmallStep n s r0 }
+    ensures { result ≡ is_small_step n s r0 }
 {
     let limit = Settings::step_back(n);
     -(limit as i64) < advance(n, s.value, 0, r0.value)
@@ -34,7 +34,7 @@ fn is_small_step(n: u8, s: Submission, r0: Entry) -> bool
 
 // Test 1: the last value is high on the dials and the submitted one low.
 fn is_near_turn(n: u8, s: Submission, r0: Entry) -> bool
-    ensures { result ≡ isNearTurn n s r0 }
+    ensures { result ≡ is_near_turn n s r0 }
 {
     let unit = mark_unit(n);
     is_plain(r0)
@@ -44,16 +44,16 @@ fn is_near_turn(n: u8, s: Submission, r0: Entry) -> bool
 
 // A0 = 10^n + R1 − R0, for a turn of 10^n that the caller has in hand.
 fn turned_advance(n: u8, turn: u64, s: Submission, r0: Entry) -> i64
-    requires { turn ≡ tenTo n }
-    ensures { result ≡ turnedAdvance n s r0 }
+    requires { turn ≡ ten_to n }
+    ensures { result ≡ turned_advance n s r0 }
 {
     advance(n, s.value, 0, r0.value) + (turn as i64)
 }
 
 // Test 2: taken as a turn, the daily rate is like the one before.
 fn is_like_rate(n: u8, turn: u64, s: Submission, r0: Entry, r1: Entry) -> bool
-    requires { turn ≡ tenTo n }
-    ensures { result ≡ isLikeRate n s r0 r1 }
+    requires { turn ≡ ten_to n }
+    ensures { result ≡ is_like_rate n s r0 r1 }
 {
     let before = advance(n, r0.value, 0, r1.value);
     let turned = turned_advance(n, turn, s, r0);
@@ -65,16 +65,16 @@ fn is_like_rate(n: u8, turn: u64, s: Submission, r0: Entry, r1: Entry) -> bool
 
 // Test 3: taken as a turn, the advance is a small part of the dials' range.
 fn is_small_turn(n: u8, turn: u64, s: Submission, r0: Entry) -> bool
-    requires { turn ≡ tenTo n }
-    ensures { result ≡ isSmallTurn n s r0 }
+    requires { turn ≡ ten_to n }
+    ensures { result ≡ is_small_turn n s r0 }
 {
     is_plain(r0) & (Settings::FRACTION * turned_advance(n, turn, s, r0) < (turn as i64))
 }
 
 // Tests 4 and 5: an earlier advance is a small part of the dials' range.
 fn is_small_advance(n: u8, turn: u64, newer: Entry, older: Entry) -> bool
-    requires { turn ≡ tenTo n }
-    ensures { result ≡ isSmallAdvance n newer older }
+    requires { turn ≡ ten_to n }
+    ensures { result ≡ is_small_advance n newer older }
 {
     (is_plain(older) & is_plain(newer))
         & (Settings::FRACTION * advance(n, newer.value, 0, older.value) < (turn as i64))
@@ -82,7 +82,7 @@ fn is_small_advance(n: u8, turn: u64, newer: Entry, older: Entry) -> bool
 
 // No read stands, or the step back is small.
 fn is_not_rollover(n: u8, s: Submission, last: Slot) -> bool
-    ensures { result ≡ isNotRollover n s last }
+    ensures { result ≡ is_not_rollover n s last }
 {
     match last {
         Slot::Read(r0) => is_small_step(n, s, r0),
@@ -92,7 +92,7 @@ fn is_not_rollover(n: u8, s: Submission, last: Slot) -> bool
 
 // All five tests; one whose reads don't exist fails.
 fn is_rollover(n: u8, s: Submission, recent: Recent) -> bool
-    ensures { result ≡ isRollover n s recent }
+    ensures { result ≡ is_rollover n s recent }
 {
     let last = recent.last;
     let second = recent.second;

@@ -1,6 +1,6 @@
 // The detection settings and the limits of the volume checks. A percentage is a part of WHOLE_PERCENT.
 ghost use Rattle.std.specs.Prelude.{◌≡◌};
-ghost use Rattle.rules.specs.Settings.{stepBack};
+ghost use Rattle.rules.specs.Settings.{step_back};
 
 #[derive(Drop)]
 pub struct Settings;
@@ -28,7 +28,7 @@ impl Settings {
 
     // On three dials no step back comes to 1000, so a turn of theirs is looked for from 100 on.
     pub fn step_back(n: u8) -> u16
-        ensures { result ≡ stepBack n }
+        ensures { result ≡ step_back n }
     {
         if n == 3 {
             return Settings::STEP_BACK_OF_THREE;

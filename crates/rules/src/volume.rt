@@ -1,7 +1,7 @@
 // Volume: whether an advance is low or high against the one before, or over the meter's capacity.
 ghost use Rattle.std.specs.Prelude.{◌≡◌};
-ghost use Rattle.arithmetic.specs.Inner.Bounds.{Within, advanceMost};
-ghost use Rattle.rules.specs.Volume.{advanceOver, hasVolumeCheck, hasThreshold, comparedWith, compared, comparedNumber, daysInYear, isWithinCapacity, volumeNumber};
+ghost use Rattle.arithmetic.specs.Inner.Bounds.{Within, advance_most};
+ghost use Rattle.rules.specs.Volume.{advance_over, has_volume_check, has_threshold, compared_with, compared, compared_number, days_in_year, is_within_capacity, volume_number};
 
 use crate::rate::scaled;
 use crate::settings::Settings;
@@ -24,7 +24,7 @@ pub enum Compared {
 
 // The advance over the last standing read, and 0 where none stands.
 pub fn advance_over(n: u8, value: u32, flag: u8, last: Slot) -> i64
-    ensures { result ≡ advanceOver n value flag last }
+    ensures { result ≡ advance_over n value flag last }
 {
     match last {
         Slot::Read(r0) => advance(n, value, flag, r0.value),
@@ -34,22 +34,22 @@ pub fn advance_over(n: u8, value: u32, flag: u8, last: Slot) -> i64
 
 // I, O and Y have no volume check.
 fn has_volume_check(s: Submission) -> bool
-    ensures { result ≡ hasVolumeCheck s }
+    ensures { result ≡ has_volume_check s }
 {
     !is_unchecked(s.letter)
 }
 
 // Nor has a re-read a threshold.
 fn has_threshold(s: Submission) -> bool
-    ensures { result ≡ hasThreshold s }
+    ensures { result ≡ has_threshold s }
 {
     has_volume_check(s) & !(s.reread == 1)
 }
 
 // The daily rate of an advance a against that of p, which the last read made over the one before.
 fn compare_with(a: i64, p: i64, s: Submission, r0: Entry, r1: Entry) -> Compared
-    requires { Within a advanceMost × Within p advanceMost }
-    ensures { result ≡ comparedWith a p s.day r0.day r1.day }
+    requires { Within a advance_most × Within p advance_most }
+    ensures { result ≡ compared_with a p s.day r0.day r1.day }
 {
     let rate = scaled(Settings::WHOLE_PERCENT, a, r0.day, r1.day);
     if rate < scaled(Settings::LOW_PERCENT, p, s.day, r0.day) {
@@ -63,7 +63,7 @@ fn compare_with(a: i64, p: i64, s: Submission, r0: Entry, r1: Entry) -> Compared
 
 // The threshold for an advance a over the last read. Where that is the only one, there is no p.
 fn compare(n: u8, a: i64, s: Submission, r0: Entry, second: Slot) -> Compared
-    requires { Within a advanceMost }
+    requires { Within a advance_most }
     ensures { result ≡ compared n a s (Slot.Read r0) second }
 {
     let Slot::Read(r1) = second else {
@@ -78,7 +78,7 @@ fn compare(n: u8, a: i64, s: Submission, r0: Entry, second: Slot) -> Compared
 
 // The paper's number for each case.
 fn compared_number(c: Compared) -> u8
-    ensures { result ≡ comparedNumber c }
+    ensures { result ≡ compared_number c }
 {
     match c {
         Compared::Low => Number::LOW,
@@ -89,15 +89,15 @@ fn compared_number(c: Compared) -> u8
 
 // The days of the year that a read's day falls in.
 fn days_in_year(day: u16) -> u16
-    ensures { result ≡ daysInYear day }
+    ensures { result ≡ days_in_year day }
 {
     year_length(year_of(day))
 }
 
 // The advance over a year at this rate is less than the capacity; strict, as 001's formula is.
 fn is_within_capacity(capacity: u32, a: i64, s: Submission, r0: Entry) -> bool
-    requires { Within a advanceMost }
-    ensures { result ≡ isWithinCapacity capacity a s (Slot.Read r0) }
+    requires { Within a advance_most }
+    ensures { result ≡ is_within_capacity capacity a s (Slot.Read r0) }
 {
     let days = days_in_year(s.day);
     a * (days as i64) < (capacity as i64) * ((s.day as i64) - (r0.day as i64))
@@ -105,7 +105,7 @@ fn is_within_capacity(capacity: u32, a: i64, s: Submission, r0: Entry) -> bool
 
 // 19, 20, 21 or 0 for a read that is taken with this flag. Where no read stands nothing is checked.
 pub fn volume(n: u8, capacity: u32, s: Submission, flag: u8, recent: Recent) -> u8
-    ensures { result ≡ volumeNumber n capacity s flag recent }
+    ensures { result ≡ volume_number n capacity s flag recent }
 {
     let last = recent.last;
     let second = recent.second;

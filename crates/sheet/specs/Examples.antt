@@ -5,7 +5,7 @@ use Rattle.terms.specs.declared.profile.Profile.TheVariants.{Ordinary, Pseudo}
 use Rattle.calls.specs.declared.call.Call.TheVariants as call
 use Rattle.sheet.specs.declared.split.Next.{Next}
 use Rattle.sheet.specs.declared.split.Next.TheVariants.{Found, End, Fault}
-use Rattle.sheet.specs.Sheet.{next_at, nextNumber, splitFrom, splitOf}
+use Rattle.sheet.specs.Sheet.{next_at, next_number, split_from, split_of}
 
 -- ---- the entries
 
@@ -30,8 +30,8 @@ abbrev pub fold : List ℕ
 fold = 5 ∷ 52 ∷ []
 
 -- 02, 4: "sheet kind 6 enrols it"
-abbrev pub pseudoEnrolment : List ℕ
-pseudoEnrolment = 6 ∷ 61 ∷ 62 ∷ 63 ∷ 64 ∷ 65 ∷ 66 ∷ []
+abbrev pub pseudo_enrolment : List ℕ
+pseudo_enrolment = 6 ∷ 61 ∷ 62 ∷ 63 ∷ 64 ∷ 65 ∷ 66 ∷ []
 
 -- ---- how they are read
 
@@ -39,8 +39,8 @@ pseudoEnrolment = 6 ∷ 61 ∷ 62 ∷ 63 ∷ 64 ∷ 65 ∷ 66 ∷ []
 abbrev pub read : List ℕ → Next
 read entry = next_at (entry ++ (1 ∷ [])) 0
 
-abbrev pub readCut : List ℕ → Next
-readCut entry = next_at (take (length entry - 1) entry) 0
+abbrev pub read_cut : List ℕ → Next
+read_cut entry = next_at (take (length entry - 1) entry) 0
 
 -- THE CLAIM: one row for each example
 pub record ExamplesHold : Type 0 where
@@ -49,24 +49,24 @@ pub record ExamplesHold : Type 0 where
   pub withdrawn : read withdrawal ≡ Found (call.Withdraw 41 11050 791555372) 8
   pub reported : read report ≡ Found (call.Report 51) 2
   pub folded : read fold ≡ Found (call.Fold 52) 2
-  pub pseudo-enrolled : read pseudoEnrolment ≡ Found (call.Enrol 61 Pseudo 62 1111572543) 7
+  pub pseudo_enrolled : read pseudo_enrolment ≡ Found (call.Enrol 61 Pseudo 62 1111572543) 7
   -- "unknown kind, cut body"
-  pub enrolment-cut : readCut enrolment ≡ Fault
-  pub submission-cut : readCut submission ≡ Fault
-  pub withdrawal-cut : readCut withdrawal ≡ Fault
-  pub report-cut : readCut report ≡ Fault
-  pub fold-cut : readCut fold ≡ Fault
-  pub pseudo-enrolment-cut : readCut pseudoEnrolment ≡ Fault
+  pub enrolment_cut : read_cut enrolment ≡ Fault
+  pub submission_cut : read_cut submission ≡ Fault
+  pub withdrawal_cut : read_cut withdrawal ≡ Fault
+  pub report_cut : read_cut report ≡ Fault
+  pub fold_cut : read_cut fold ≡ Fault
+  pub pseudo_enrolment_cut : read_cut pseudo_enrolment ≡ Fault
   pub kind_0 : read (0 ∷ submission) ≡ Fault
-  pub kind-7 : read (7 ∷ submission) ≡ Fault
-  pub fault-number : nextNumber Fault ≡ 26
+  pub kind_7 : read (7 ∷ submission) ≡ Fault
+  pub fault_number : next_number Fault ≡ 26
   -- an entry after another, whole to the last byte of the sheet; and the end
   pub second : next_at (report ++ withdrawal) 2 ≡ Found (call.Withdraw 41 11050 791555372) 10
-  pub at-the-end : next_at (report ++ withdrawal) 10 ≡ End
+  pub at_the_end : next_at (report ++ withdrawal) 10 ≡ End
   pub empty : next_at [] 0 ≡ End
   -- the calls before a fault are held
-  pub no-fault : splitOf (report ++ fold) ≡ record { calls = call.Report 51 ∷ call.Fold 52 ∷ []; faulty = false }
-  pub third-a-fault : splitOf (report ++ (fold ++ (7 ∷ report))) ≡ record { calls = call.Report 51 ∷ call.Fold 52 ∷ []; faulty = true }
+  pub no_fault : split_of (report ++ fold) ≡ record { calls = call.Report 51 ∷ call.Fold 52 ∷ []; faulty = false }
+  pub third_a_fault : split_of (report ++ (fold ++ (7 ∷ report))) ≡ record { calls = call.Report 51 ∷ call.Fold 52 ∷ []; faulty = true }
   -- "over 60,000 bytes": 60,000 are allowed, and 60,001 are not
-  pub longest : (sheet : List ℕ) → length sheet ≡ 60000 → splitOf sheet ≡ splitFrom (suc (length sheet)) sheet 0
-  pub too_long : (sheet : List ℕ) → length sheet ≡ 60001 → splitOf sheet ≡ record { calls = []; faulty = true }
+  pub longest : (sheet : List ℕ) → length sheet ≡ 60000 → split_of sheet ≡ split_from (suc (length sheet)) sheet 0
+  pub too_long : (sheet : List ℕ) → length sheet ≡ 60001 → split_of sheet ≡ record { calls = []; faulty = true }

@@ -1,7 +1,7 @@
 // The body of an entry, read by its form. What is lent is the body alone, so each field has its fixed byte.
 ghost use Rattle.std.specs.Prelude.{◌≡◌, ◌+◌, ◌≤◌, length};
 ghost use Rattle.register.specs.Bytes.{byte_at};
-ghost use Rattle.sheet.specs.Sheet.{bodyBytes, call_at};
+ghost use Rattle.sheet.specs.Sheet.{body_bytes, call_at};
 
 use crate::form::{BodySize, Form};
 use calls::call::Call;
@@ -59,7 +59,7 @@ fn withdraw_at(body: &[u8]) -> Call
 
 // The body lies whole in the sheet. Its length is written out in each form, so that reading a field of it needs no test.
 pub(crate) fn call_at(sheet: &[u8], form: Form, i: usize) -> Call
-    requires { i + bodyBytes form ≤ length sheet.now }
+    requires { i + body_bytes form ≤ length sheet.now }
     ensures { result ≡ call_at form sheet.now i }
 {
     match form {

@@ -1,6 +1,6 @@
 // The form of an entry: what its kind byte says of the body after it.
 ghost use Rattle.std.specs.Prelude.{◌≡◌};
-ghost use Rattle.sheet.specs.Sheet.{kind_of, bodyBytes};
+ghost use Rattle.sheet.specs.Sheet.{kind_of, body_bytes};
 
 use terms::profile::Profile;
 
@@ -53,7 +53,7 @@ impl BodySize {
 
 // A byte holds it, so what is added to a position in a sheet is small.
 pub fn body_bytes(form: Form) -> u8
-    ensures { result ≡ bodyBytes form }
+    ensures { result ≡ body_bytes form }
 {
     match form {
         Form::Enrol(_) => BodySize::ENROL,

@@ -1,6 +1,6 @@
 // How long a sheet may be.
 ghost use Rattle.std.specs.Prelude.{◌≡◌, ◌+◌, length};
-ghost use Rattle.sheet.specs.Sheet.{sheetMost};
+ghost use Rattle.sheet.specs.Sheet.{sheet_most};
 
 #[derive(Drop)]
 pub struct SheetSize;
@@ -13,7 +13,7 @@ impl SheetSize {
 
 // Room for one byte more than a sheet may have, so that a longer one shows.
 pub fn room_for_sheet() -> [u8; SheetSize::ROOM_BYTES]
-    ensures { length result ≡ sheetMost + 1 }
+    ensures { length result ≡ sheet_most + 1 }
 {
     [0; SheetSize::ROOM_BYTES]
 }

@@ -1,14 +1,14 @@
 // The decision on a submission: the number of the first rule broken, and what an accepted or a held read is stored with.
 ghost use Rattle.std.specs.Prelude.{◌≡◌, length};
-ghost use Rattle.terms.specs.Entry.{recentOf};
-ghost use Rattle.terms.specs.Rule.{firstBroken};
-ghost use Rattle.rules.specs.Volume.{advanceOver, volumeNumber};
+ghost use Rattle.terms.specs.Entry.{recent_of};
+ghost use Rattle.terms.specs.Rule.{first_broken};
+ghost use Rattle.rules.specs.Volume.{advance_over, volume_number};
 ghost use Rattle.register.specs.Area.{area_bytes};
-ghost use Rattle.register.specs.Head.{offsetAfter};
-ghost use Rattle.journal.specs.Journal.{Journal, journalOf, standing};
-ghost use Rattle.judge.specs.Inner.Judged.{summaryOf, Counted};
-ghost use Rattle.calls.specs.Checks.{isWithdrawnRead, submitRules};
-ghost use Rattle.submit.specs.Inner.Decision.{refusedDecision, decided, decidedIn, decisionOf, judgedRules};
+ghost use Rattle.register.specs.Head.{offset_after};
+ghost use Rattle.journal.specs.Journal.{Journal, journal_of, standing};
+ghost use Rattle.judge.specs.Inner.Judged.{summary_of, Counted};
+ghost use Rattle.calls.specs.Checks.{is_withdrawn_read, submit_rules};
+ghost use Rattle.submit.specs.Inner.Decision.{refused_decision, decided, decided_in, decision_of, judged_rules};
 
 use crate::content::content_number;
 use crate::order::order_number;
@@ -38,7 +38,7 @@ pub struct Decision {
 
 // A number that writes nothing.
 fn refused(number: u8) -> Decision
-    ensures { result ≡ refusedDecision number }
+    ensures { result ≡ refused_decision number }
 {
     Decision {
         number,
@@ -50,7 +50,7 @@ fn refused(number: u8) -> Decision
 
 // 19 to 21 for a read that is taken with this flag, or 0.
 fn weigh(s: Submission, t: Summary, recent: Recent, flag: u8) -> Decision
-    ensures { result ≡ decided (volumeNumber t.head.dials t.head.capacity s flag recent) flag (advanceOver t.head.dials s.value flag recent.last) (offsetAfter t.head t.counts.kept) }
+    ensures { result ≡ decided (volume_number t.head.dials t.head.capacity s flag recent) flag (advance_over t.head.dials s.value flag recent.last) (offset_after t.head t.counts.kept) }
 {
     let head = t.head;
     let last = recent.last;
@@ -78,7 +78,7 @@ fn weigh(s: Submission, t: Summary, recent: Recent, flag: u8) -> Decision
 
 // 17 to 21, or 0: what is asked once the read is in order. The volume is checked with the flag that detection and indicator give.
 fn judge(s: Submission, t: Summary, recent: Recent) -> Decision
-    ensures { (j : Journal) → t ≡ summaryOf j → recent ≡ recentOf (standing j.entries) → result ≡ decidedIn s j (firstBroken (judgedRules s j)) }
+    ensures { (j : Journal) → t ≡ summary_of j → recent ≡ recent_of (standing j.entries) → result ≡ decided_in s j (first_broken (judged_rules s j)) }
 {
     let head = t.head;
     match indicate(detect(head.dials, s, recent), s.indicator) {
@@ -91,8 +91,8 @@ fn judge(s: Submission, t: Summary, recent: Recent) -> Decision
 // Every rule that a sound journal is asked, group by group, with the entries that the group needs: the last reads only where none of 5 to 16
 // is broken.
 fn decide_sound(area: &[u8], s: Submission, t: Summary, withdrawn: bool) -> Decision
-    requires { Counted area.now t × (withdrawn ≡ isWithdrawnRead s (journalOf area.now).entries) }
-    ensures { result ≡ decidedIn s (journalOf area.now) (firstBroken (submitRules s (journalOf area.now))) }
+    requires { Counted area.now t × (withdrawn ≡ is_withdrawn_read s (journal_of area.now).entries) }
+    ensures { result ≡ decided_in s (journal_of area.now) (first_broken (submit_rules s (journal_of area.now))) }
 {
     let content = content_number(s, t, withdrawn);
     if content != Number::ACCEPTED {
@@ -112,7 +112,7 @@ fn decide_sound(area: &[u8], s: Submission, t: Summary, withdrawn: bool) -> Deci
 // What an area makes of a submission. Nothing is written.
 pub(crate) fn decide(area: &[u8], s: Submission) -> Decision
     requires { length area.now ≡ area_bytes }
-    ensures { result ≡ decisionOf s area.now }
+    ensures { result ≡ decision_of s area.now }
 {
     let judgement = judge_area(area, s.day, s.value);
     let found = judgement.found;

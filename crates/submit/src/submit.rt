@@ -3,8 +3,8 @@ ghost use Rattle.std.specs.Prelude.{◌≡◌, length};
 ghost use Rattle.register.specs.Area.{area_bytes};
 ghost use Rattle.calls.specs.declared.call.Call.{Call};
 ghost use Rattle.calls.specs.declared.call.Reply.{Reply};
-ghost use Rattle.calls.specs.Calls.{entryFor, acted, submitIn, done, step};
-ghost use Rattle.submit.specs.Inner.Decision.{storedBy, answer_of};
+ghost use Rattle.calls.specs.Calls.{entry_for, acted, submit_in, done, step};
+ghost use Rattle.submit.specs.Inner.Decision.{stored_by, answer_of};
 
 use crate::decide::{Decision, decide};
 use place::{Located, locate};
@@ -17,7 +17,7 @@ use terms::submission::Submission;
 
 // The submitted read as an entry.
 fn entry_for(kind: u8, s: Submission, flag: u8) -> Entry
-    ensures { result ≡ entryFor kind s flag }
+    ensures { result ≡ entry_for kind s flag }
 {
     Entry {
         kind,
@@ -31,7 +31,7 @@ fn entry_for(kind: u8, s: Submission, flag: u8) -> Entry
 
 // An accepted read stands, one with 19 or 20 is held, and nothing else is written.
 fn store(area: &mut [u8], s: Submission, d: Decision)
-    ensures { area.new ≡ storedBy d s area.old }
+    ensures { area.new ≡ stored_by d s area.old }
 {
     if d.number == Number::ACCEPTED {
         put_entry(area, d.at, entry_for(Kind::STANDING, s, d.flag));
@@ -59,7 +59,7 @@ pub(crate) fn answer(d: Decision) -> Answer
 // The call on the area that it names.
 fn submit_in(area: &mut [u8], s: Submission) -> Answer
     requires { length area.old ≡ area_bytes }
-    ensures { acted (Reply.Answered result) area.new ≡ submitIn s area.old }
+    ensures { acted (Reply.Answered result) area.new ≡ submit_in s area.old }
 {
     let d = decide(area, s);
     store(area, s, d);

@@ -3,7 +3,7 @@ ghost use Rattle.std.specs.Prelude.{◌≡◌, length};
 ghost use Rattle.register.specs.Area.{area_bytes};
 ghost use Rattle.calls.specs.declared.call.Call.{Call};
 ghost use Rattle.calls.specs.declared.call.Reply.{Reply};
-ghost use Rattle.calls.specs.Calls.{submitIn, step};
+ghost use Rattle.calls.specs.Calls.{submit_in, step};
 
 use crate::decide::decide;
 use crate::submit::answer;
@@ -15,7 +15,7 @@ use terms::submission::Submission;
 // A submission's decision and its answer, and nothing between them: a submission stores the read there.
 fn trial_in(area: &[u8], s: Submission) -> Answer
     requires { length area.now ≡ area_bytes }
-    ensures { Reply.Answered result ≡ (submitIn s area.now).reply }
+    ensures { Reply.Answered result ≡ (submit_in s area.now).reply }
 {
     let d = decide(area, s);
     answer(d)

@@ -8,7 +8,7 @@ use borrow.Author.Tests.{lt-ltb, le-ltb}
 use lib.IntN.{ℤ, pos, negsuc, nat_abs, ◌+ℤ◌, ◌-ℤ◌, +ℤ_assoc, +ℤ_comm, pos-+ℤ-pos, pos-ne-negsuc}
 use lib.Signed.{mag, non_neg}
 use Rattle.tally.specs.declared.change.Moved.TheVariants.{Out}
-use Rattle.tally.specs.Inner.Moved.{shownBy, moved_to}
+use Rattle.tally.specs.Inner.Moved.{shown_by, moved_to}
 
 -- ---- one number less another
 pub less : (a b : ℕ) → b ≤ a → pos a -ℤ pos b ≡ pos (a - b)
@@ -21,12 +21,12 @@ below a (suc b) h = ap (λ (t : Bool). non_neg (cond t (negsuc (suc b - suc a)) 
 
 -- ---- moved by an advance of either sign, with its magnitude
 module _ (limit from : ℕ) where
-  pub up : (z : ℤ) → z ≡ pos (nat_abs z) → moved_to limit (pos from +ℤ z) ≡ shownBy limit (from + nat_abs z)
+  pub up : (z : ℤ) → z ≡ pos (nat_abs z) → moved_to limit (pos from +ℤ z) ≡ shown_by limit (from + nat_abs z)
   unfolding moved_to
   up (pos n) h = ap (moved_to limit) (pos-+ℤ-pos from n)
   up (negsuc n) h = absurd (pos-ne-negsuc (suc n) n (sym h))
 
-  pub down : (z : ℤ) → z ≡ negsuc (mag z) → nat_abs z ≤ from → moved_to limit (pos from +ℤ z) ≡ shownBy limit (from - nat_abs z)
+  pub down : (z : ℤ) → z ≡ negsuc (mag z) → nat_abs z ≤ from → moved_to limit (pos from +ℤ z) ≡ shown_by limit (from - nat_abs z)
   unfolding moved_to
   down (pos n) h l = absurd (pos-ne-negsuc n n h)
   down (negsuc n) h l = ap (moved_to limit) (less from (suc n) l)
@@ -37,8 +37,8 @@ module _ (limit from : ℕ) where
   out (negsuc n) h l = ap (λ (t : Bool). moved_to limit (cond t (negsuc (suc n - suc from)) (pos (from - suc n)))) (lt-ltb from (suc n) l)
 
 -- ---- the flag's part may be added first
-pub flag-first : (last flag turn : ℕ) (z : ℤ) → pos (last + turn * flag) +ℤ z ≡ pos last +ℤ z +ℤ pos (flag * turn)
-flag-first last flag turn z =
+pub flag_first : (last flag turn : ℕ) (z : ℤ) → pos (last + turn * flag) +ℤ z ≡ pos last +ℤ z +ℤ pos (flag * turn)
+flag_first last flag turn z =
     ap (λ (k : ℕ). pos (last + k) +ℤ z) (mul_comm turn flag)
     ∙ ap (λ (y : ℤ). y +ℤ z) (sym (pos-+ℤ-pos last (flag * turn)))
     ∙ +ℤ_assoc (pos last) (pos (flag * turn)) z

@@ -8,86 +8,86 @@ use native.Mathlib.Omega.{arith}
 use borrow.Author.Tests.{eq-eqb, ne_eqb}
 use lib.Dec.{eqb}
 use lib.IntN.{ℤ, pos, neg_ℤ, ◌+ℤ◌, ◌-ℤ◌, +ℤ_assoc, +ℤ_idl, +ℤ_invr, +ℤ-neg_ℤ_cancel, -ℤ-+ℤ_cancel, neg_ℤ-+ℤ, neg_ℤ-neg_ℤ}
-use Rattle.arithmetic.specs.Powers.{tenTo}
-use Rattle.arithmetic.specs.Advance.{advanceOf}
+use Rattle.arithmetic.specs.Powers.{ten_to}
+use Rattle.arithmetic.specs.Advance.{advance_of}
 use Rattle.terms.specs.declared.entry.Entry.{Entry}
 use Rattle.terms.specs.Entry.{slot_at}
 use Rattle.terms.specs.Number.{accepted}
-use Rattle.rules.specs.Volume.{advanceOver}
+use Rattle.rules.specs.Volume.{advance_over}
 use Rattle.register.specs.declared.head.Head.{Head}
-use Rattle.journal.specs.Journal.{firstValue}
-use Rattle.journal.specs.Total.{standingIn, flaggedIn, firstIn}
-use Rattle.calls.proofs.Totals.{IsFlag, Bare, flagged-in, first_more, first-bare, folded-bare}
+use Rattle.journal.specs.Journal.{first_value}
+use Rattle.journal.specs.Total.{standing_in, flagged_in, first_in}
+use Rattle.calls.proofs.Totals.{IsFlag, Bare, flagged_in_lem, first_more, first_bare, folded_bare}
 use Rattle.tally.specs.declared.tally.Tally.{Tally}
-use Rattle.tally.specs.Tally.{tallyNumber}
-use Rattle.tally.specs.Change.{Wanted, tallyFor, mayBe, madeTo, enrolled, withRead, withoutRead, lastWithout}
-use Rattle.tally.proofs.OfJournal.{lastValue, tally_of, none_first, none-flagged}
+use Rattle.tally.specs.Tally.{tally_number}
+use Rattle.tally.specs.Change.{Wanted, tally_for, may_be, made_to, enrolled, with_read, without_read, last_without}
+use Rattle.tally.proofs.OfJournal.{last_value, tally_of, none_first, none_flagged}
 
 -- none of the numbers is below 0, and they are those of a tally
 pub record Wants (w : Wanted) (next : Tally) : Type 0 where
-  pub dials-are : w.dials ≡ next.dials
-  pub standing-is : w.standing ≡ pos next.standing
-  pub flagged-is : w.flagged ≡ pos next.flagged
-  pub first-is : w.first ≡ next.first
-  pub last-is : w.last ≡ pos next.last
+  pub dials_are : w.dials ≡ next.dials
+  pub standing_is : w.standing ≡ pos next.standing
+  pub flagged_is : w.flagged ≡ pos next.flagged
+  pub first_is : w.first ≡ next.first
+  pub last_is : w.last ≡ pos next.last
 
 -- a change to a tally that may be kept is made
-pub made : (w : Wanted) (next t : Tally) → Wants w next → tallyNumber next ≡ accepted → madeTo w t ≡ next
-unfolding madeTo mayBe tallyFor
+pub made : (w : Wanted) (next t : Tally) → Wants w next → tally_number next ≡ accepted → made_to w t ≡ next
+unfolding made_to may_be tally_for
 made w next t wants number =
-    rw (wants.dials-are, wants.standing-is, wants.flagged-is, wants.first-is, wants.last-is, number)
+    rw (wants.dials_are, wants.standing_is, wants.flagged_is, wants.first_is, wants.last_is, number)
 
 -- ---- how many stand: none, one, or more
 module _ (head : Head) (bare : Bare head) where
-  stand-none : standingIn head [] ≡ 0
-  unfolding standingIn
-  stand-none = omega (arith, folded-bare head bare)
+  stand_none : standing_in head [] ≡ 0
+  unfolding standing_in
+  stand_none = omega (arith, folded_bare head bare)
 
-  stand-one : (e : Entry) → eqb (standingIn head (e ∷ [])) 1 ≡ true
-  unfolding standingIn
-  stand-one e = eq-eqb (standingIn head (e ∷ [])) 1 (omega (arith, folded-bare head bare))
+  stand_one : (e : Entry) → eqb (standing_in head (e ∷ [])) 1 ≡ true
+  unfolding standing_in
+  stand_one e = eq-eqb (standing_in head (e ∷ [])) 1 (omega (arith, folded_bare head bare))
 
 module _ (head : Head) (e : Entry) where
-  stand-more : (ss : List Entry) → standingIn head (e ∷ ss) ≡ standingIn head ss + 1
-  unfolding standingIn
-  stand-more ss = omega arith
+  stand_more : (ss : List Entry) → standing_in head (e ∷ ss) ≡ standing_in head ss + 1
+  unfolding standing_in
+  stand_more ss = omega arith
 
-  stand-some : (ss : List Entry) → eqb (standingIn head (e ∷ ss)) 0 ≡ false
-  unfolding standingIn
-  stand-some ss = ne_eqb (standingIn head (e ∷ ss)) 0 (λ none. omega arith)
+  stand_some : (ss : List Entry) → eqb (standing_in head (e ∷ ss)) 0 ≡ false
+  unfolding standing_in
+  stand_some ss = ne_eqb (standing_in head (e ∷ ss)) 0 (λ none. omega arith)
 
-  stand-two : (s : Entry) (ss : List Entry) → eqb (standingIn head (e ∷ s ∷ ss)) 1 ≡ false
-  unfolding standingIn
-  stand-two s ss = ne_eqb (standingIn head (e ∷ s ∷ ss)) 1 (λ one. omega arith)
+  stand_two : (s : Entry) (ss : List Entry) → eqb (standing_in head (e ∷ s ∷ ss)) 1 ≡ false
+  unfolding standing_in
+  stand_two s ss = ne_eqb (standing_in head (e ∷ s ∷ ss)) 1 (λ one. omega arith)
 
 -- ---- an enrolment: nothing stands yet
-pub wants-enrolled : (head : Head) → Bare head → Wants (enrolled head.dials) (tally_of head [])
-unfolding enrolled lastValue
-wants-enrolled head bare =
+pub wants_enrolled : (head : Head) → Bare head → Wants (enrolled head.dials) (tally_of head [])
+unfolding enrolled last_value
+wants_enrolled head bare =
     record {
-      dials-are = refl;
-      standing-is = ap pos (sym (stand-none head bare));
-      flagged-is = ap pos (sym (none-flagged head bare));
-      first-is = sym (none_first head bare);
-      last-is = refl;
+      dials_are = refl;
+      standing_is = ap pos (sym (stand_none head bare));
+      flagged_is = ap pos (sym (none_flagged head bare));
+      first_is = sym (none_first head bare);
+      last_is = refl;
     }
 
 -- ---- a read more
 module _ (head : Head) (e : Entry) where
-  first-with : (ss : List Entry) → (ss ≡ [] → Bare head) → cond (eqb (standingIn head ss) 0) e.value (firstIn head ss) ≡ firstIn head (e ∷ ss)
-  unfolding firstValue
-  first-with [] bare = rw (stand-none head (bare refl)) (sym (first-bare head (e ∷ []) (bare refl)))
-  first-with (s ∷ ss) bare = rw (stand-some head s ss) (sym (first_more head e s ss))
+  first_with : (ss : List Entry) → (ss ≡ [] → Bare head) → cond (eqb (standing_in head ss) 0) e.value (first_in head ss) ≡ first_in head (e ∷ ss)
+  unfolding first_value
+  first_with [] bare = rw (stand_none head (bare refl)) (sym (first_bare head (e ∷ []) (bare refl)))
+  first_with (s ∷ ss) bare = rw (stand_some head s ss) (sym (first_more head e s ss))
 
-  pub wants-more : IsFlag e.flag → (ss : List Entry) → (ss ≡ [] → Bare head) → Wants (withRead e.value e.flag (tally_of head ss)) (tally_of head (e ∷ ss))
-  unfolding withRead lastValue
-  wants-more flag ss bare =
+  pub wants_more : IsFlag e.flag → (ss : List Entry) → (ss ≡ [] → Bare head) → Wants (with_read e.value e.flag (tally_of head ss)) (tally_of head (e ∷ ss))
+  unfolding with_read last_value
+  wants_more flag ss bare =
       record {
-        dials-are = refl;
-        standing-is = ap pos (sym (stand-more head e ss));
-        flagged-is = ap pos (sym (flagged-in head e ss flag));
-        first-is = first-with ss bare;
-        last-is = refl;
+        dials_are = refl;
+        standing_is = ap pos (sym (stand_more head e ss));
+        flagged_is = ap pos (sym (flagged_in_lem head e ss flag));
+        first_is = first_with ss bare;
+        last_is = refl;
       }
 
 -- ---- a read less
@@ -105,24 +105,24 @@ back e s f =
 module _ (head : Head) (e : Entry) where
   -- what the withdrawal answers
   abbrev answered : List Entry → ℤ
-  answered ss = neg_ℤ (advanceOver head.dials e.value e.flag (slot_at ss 0))
+  answered ss = neg_ℤ (advance_over head.dials e.value e.flag (slot_at ss 0))
 
-  first-without : (ss : List Entry) → (ss ≡ [] → Bare head) → cond (eqb (standingIn head (e ∷ ss)) 1) 0 (firstIn head (e ∷ ss)) ≡ firstIn head ss
-  first-without [] bare = rw (stand-one head (bare refl) e) (sym (none_first head (bare refl)))
-  first-without (s ∷ ss) bare = rw (stand-two head e s ss) (first_more head e s ss)
+  first_without : (ss : List Entry) → (ss ≡ [] → Bare head) → cond (eqb (standing_in head (e ∷ ss)) 1) 0 (first_in head (e ∷ ss)) ≡ first_in head ss
+  first_without [] bare = rw (stand_one head (bare refl) e) (sym (none_first head (bare refl)))
+  first_without (s ∷ ss) bare = rw (stand_two head e s ss) (first_more head e s ss)
 
-  last-without : (ss : List Entry) → (ss ≡ [] → Bare head) → cond (eqb (standingIn head (e ∷ ss)) 1) (pos 0) (lastWithout e.flag (answered ss) (tally_of head (e ∷ ss))) ≡ pos (lastValue ss)
-  unfolding lastWithout lastValue advanceOver advanceOf slot_at
-  last-without [] bare = rw (stand-one head (bare refl) e)
-  last-without (s ∷ ss) bare = rw (stand-two head e s ss) (back (pos e.value) (pos s.value) (pos (e.flag * tenTo head.dials)))
+  last_without_lem : (ss : List Entry) → (ss ≡ [] → Bare head) → cond (eqb (standing_in head (e ∷ ss)) 1) (pos 0) (last_without e.flag (answered ss) (tally_of head (e ∷ ss))) ≡ pos (last_value ss)
+  unfolding last_without last_value advance_over advance_of slot_at
+  last_without_lem [] bare = rw (stand_one head (bare refl) e)
+  last_without_lem (s ∷ ss) bare = rw (stand_two head e s ss) (back (pos e.value) (pos s.value) (pos (e.flag * ten_to head.dials)))
 
-  pub wants-less : IsFlag e.flag → (ss : List Entry) → (ss ≡ [] → Bare head) → Wants (withoutRead e.flag (answered ss) (tally_of head (e ∷ ss))) (tally_of head ss)
-  unfolding withoutRead
-  wants-less flag ss bare =
+  pub wants_less : IsFlag e.flag → (ss : List Entry) → (ss ≡ [] → Bare head) → Wants (without_read e.flag (answered ss) (tally_of head (e ∷ ss))) (tally_of head ss)
+  unfolding without_read
+  wants_less flag ss bare =
       record {
-        dials-are = refl;
-        standing-is = ap (λ (k : ℕ). pos k -ℤ pos 1) (stand-more head e ss) ∙ +ℤ-neg_ℤ_cancel (pos (standingIn head ss)) (pos 1);
-        flagged-is = ap (λ (k : ℕ). pos k -ℤ pos e.flag) (flagged-in head e ss flag) ∙ +ℤ-neg_ℤ_cancel (pos (flaggedIn head ss)) (pos e.flag);
-        first-is = first-without ss bare;
-        last-is = last-without ss bare;
+        dials_are = refl;
+        standing_is = ap (λ (k : ℕ). pos k -ℤ pos 1) (stand_more head e ss) ∙ +ℤ-neg_ℤ_cancel (pos (standing_in head ss)) (pos 1);
+        flagged_is = ap (λ (k : ℕ). pos k -ℤ pos e.flag) (flagged_in_lem head e ss flag) ∙ +ℤ-neg_ℤ_cancel (pos (flagged_in head ss)) (pos e.flag);
+        first_is = first_without ss bare;
+        last_is = last_without_lem ss bare;
       }

@@ -1,10 +1,10 @@
 // How an answered call changes a tally: by the call and its answer alone.
 ghost use Rattle.std.specs.Prelude.{cond, ◌≡◌, ◌-◌, ◌≤◌, eqb, pos, ◌+ℤ◌};
-ghost use Rattle.arithmetic.specs.Powers.{tenTo};
+ghost use Rattle.arithmetic.specs.Powers.{ten_to};
 ghost use Rattle.terms.specs.Number.{accepted};
-ghost use Rattle.tally.specs.Tally.{tallied, is_zero, tallyNumber};
-ghost use Rattle.tally.specs.Change.{enrolled, withRead, withoutRead, madeTo, tallyAfter};
-ghost use Rattle.tally.specs.Inner.Moved.{shownBy, moved_to};
+ghost use Rattle.tally.specs.Tally.{tallied, is_zero, tally_number};
+ghost use Rattle.tally.specs.Change.{enrolled, with_read, without_read, made_to, tally_after};
+ghost use Rattle.tally.specs.Inner.Moved.{shown_by, moved_to};
 
 use crate::tally::{Tally, limit_of, tally_number};
 use arithmetic::magnitude::magnitude;
@@ -21,7 +21,7 @@ pub enum Moved {
 
 // The next tally where it is one, and else the tally as it was.
 fn made_to(next: Tally, t: Tally) -> Tally
-    ensures { result ≡ cond (eqb (tallyNumber next) accepted) next t }
+    ensures { result ≡ cond (eqb (tally_number next) accepted) next t }
 {
     if tally_number(next) == Number::ACCEPTED {
         return next;
@@ -30,7 +30,7 @@ fn made_to(next: Tally, t: Tally) -> Tally
 }
 
 fn enrol(t: Tally, dials: u8) -> Tally
-    ensures { result ≡ cond (is_zero t) (madeTo (enrolled dials) t) t }
+    ensures { result ≡ cond (is_zero t) (made_to (enrolled dials) t) t }
 {
     if tally_number(t) != Number::NO_METER {
         return t;
@@ -46,7 +46,7 @@ fn enrol(t: Tally, dials: u8) -> Tally
 }
 
 fn submit(t: Tally, value: u32, flag: u8) -> Tally
-    ensures { result ≡ cond (eqb (tallyNumber t) accepted) (madeTo (withRead value flag t) t) t }
+    ensures { result ≡ cond (eqb (tally_number t) accepted) (made_to (with_read value flag t) t) t }
 {
     if tally_number(t) != Number::ACCEPTED {
         return t;
@@ -66,7 +66,7 @@ fn submit(t: Tally, value: u32, flag: u8) -> Tally
 }
 
 fn shown(limit: u32, value: u64) -> Moved
-    ensures { result ≡ shownBy limit value }
+    ensures { result ≡ shown_by limit value }
 {
     if value < (limit as u64) {
         return Moved::To(value as u32);
@@ -91,7 +91,7 @@ fn move_by(limit: u32, from: u64, advance: i64) -> Moved
 // The last value after a withdrawal: 0 where the only read goes. Flag × 10^n is added before the advance: what the advance is then added to, or
 // taken from, is not below 0.
 fn last_without(t: Tally, flag: u8, advance: i64) -> Moved
-    ensures { result ≡ moved_to (tenTo t.dials) (withoutRead flag advance t).last }
+    ensures { result ≡ moved_to (ten_to t.dials) (without_read flag advance t).last }
 {
     let limit = limit_of(t.dials);
     if t.standing == 1 {
@@ -120,7 +120,7 @@ fn without(t: Tally, flag: u8, last: u32) -> Tally
 }
 
 fn withdraw(t: Tally, flag: u8, advance: i64) -> Tally
-    ensures { result ≡ cond (eqb (tallyNumber t) accepted) (madeTo (withoutRead flag advance t) t) t }
+    ensures { result ≡ cond (eqb (tally_number t) accepted) (made_to (without_read flag advance t) t) t }
 {
     if tally_number(t) != Number::ACCEPTED {
         return t;
@@ -135,7 +135,7 @@ fn withdraw(t: Tally, flag: u8, advance: i64) -> Tally
 }
 
 fn answered(t: Tally, call: Call, a: Answer) -> Tally
-    ensures { result ≡ tallyAfter call (Reply.Answered a) t }
+    ensures { result ≡ tally_after call (Reply.Answered a) t }
 {
     if a.number != Number::ACCEPTED {
         return t;
@@ -161,7 +161,7 @@ fn answered(t: Tally, call: Call, a: Answer) -> Tally
 
 // The tally after a call on its meter that was answered so. A report changes nothing, whatever it reports.
 pub fn changed(t: Tally, call: Call, reply: Reply) -> Tally
-    ensures { result ≡ tallyAfter call reply t }
+    ensures { result ≡ tally_after call reply t }
 {
     match reply {
         Reply::Answered(a) => answered(t, call, a),

@@ -1,6 +1,6 @@
 // A report from a tally. It is lent no register, so that it reads no byte of a journal.
 ghost use Rattle.std.specs.Prelude.{◌≡◌};
-ghost use Rattle.tally.specs.Tally.{tallyReport};
+ghost use Rattle.tally.specs.Tally.{tally_report};
 
 use crate::tally::{Tally, limit_of, tally_number};
 use arithmetic::advance::total;
@@ -8,7 +8,7 @@ use terms::answer::{Report, refuse_report};
 use terms::number::Number;
 
 pub fn report_tally(t: Tally) -> Report
-    ensures { result ≡ tallyReport t }
+    ensures { result ≡ tally_report t }
 {
     let number = tally_number(t);
     if number != Number::ACCEPTED {

@@ -1,7 +1,7 @@
 // The tally, and whether it is one.
 ghost use Rattle.std.specs.Prelude.{◌≡◌};
-ghost use Rattle.arithmetic.specs.Powers.{tenTo};
-ghost use Rattle.tally.specs.Tally.{is_zero, isBroken, tallyNumber};
+ghost use Rattle.arithmetic.specs.Powers.{ten_to};
+ghost use Rattle.tally.specs.Tally.{is_zero, is_broken, tally_number};
 
 use arithmetic::powers::power;
 use journal::plate::Dials;
@@ -28,7 +28,7 @@ impl Most {
 
 // 10^n, and 0 for dials that the table has no power of.
 pub(crate) fn limit_of(dials: u32) -> u32
-    ensures { result ≡ tenTo dials }
+    ensures { result ≡ ten_to dials }
 {
     if dials < 10 {
         return power(dials as u8) as u32;
@@ -43,7 +43,7 @@ fn is_zero(t: Tally) -> bool
 }
 
 fn is_broken(t: Tally) -> bool
-    ensures { result ≡ isBroken t }
+    ensures { result ≡ is_broken t }
 {
     let limit = limit_of(t.dials);
     let none = t.standing == 0;
@@ -56,7 +56,7 @@ fn is_broken(t: Tally) -> bool
 
 // 3 for a tally of zeros, 4 for a broken one, and 0 for any other.
 pub fn tally_number(t: Tally) -> u8
-    ensures { result ≡ tallyNumber t }
+    ensures { result ≡ tally_number t }
 {
     if is_zero(t) {
         return Number::NO_METER;

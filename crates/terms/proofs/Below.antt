@@ -6,16 +6,16 @@ use native.Mathlib.Omega.{arith}
 use borrow.Author.Tests.{leb-true, leb-false}
 use lib.Dec.{leb}
 
-unfoldable pub all-below : ℕ → (ℕ → Bool) → Bool
-all-below zero p = true
-all-below (suc n) p = p n && all-below n p
+unfoldable pub all_below : ℕ → (ℕ → Bool) → Bool
+all_below zero p = true
+all_below (suc n) p = p n && all_below n p
 
-pub below : (n : ℕ) (p : ℕ → Bool) → all-below n p ≡ true → (k : ℕ) → k < n → p k ≡ true
-unfolding all-below
+pub below : (n : ℕ) (p : ℕ → Bool) → all_below n p ≡ true → (k : ℕ) → k < n → p k ≡ true
+unfolding all_below
 below zero p h k l = absurd (omega arith)
 below (suc n) p h k l = cases (leb n k) refl (below n p tests.1 k) where
-  tests : (p n ≡ true) × (all-below n p ≡ true)
-  tests = (and-eq-true_iff (p n) (all-below n p)).0 h
+  tests : (p n ≡ true) × (all_below n p ≡ true)
+  tests = (and-eq-true_iff (p n) (all_below n p)).0 h
 
   cases : (b : Bool) → leb n k ≡ b → (k < n → p k ≡ true) → p k ≡ true
   cases true e rest =

@@ -19,5 +19,5 @@ abbrev pub reported : ℕ → ℕ → ℕ → ℤ → Report
 reported number standing flagged total =
     record { number = number; standing = standing; flagged = flagged; total = total }
 
-abbrev pub refusedReport : ℕ → Report
-refusedReport number = reported number 0 0 (pos 0)
+abbrev pub refused_report : ℕ → Report
+refused_report number = reported number 0 0 (pos 0)

@@ -10,8 +10,8 @@ repeat = 1
 abbrev pub misfit : ℕ
 misfit = 2
 
-abbrev pub noMeter : ℕ
-noMeter = 3
+abbrev pub no_meter : ℕ
+no_meter = 3
 
 abbrev pub damaged : ℕ
 damaged = 4
@@ -25,38 +25,38 @@ content = 6
 abbrev pub date : ℕ
 date = 7
 
-abbrev pub withdrawnRead : ℕ
-withdrawnRead = 8
+abbrev pub withdrawn_read : ℕ
+withdrawn_read = 8
 
-abbrev pub readAT : ℕ
-readAT = 9
+abbrev pub read_at : ℕ
+read_at = 9
 
-abbrev pub readEH : ℕ
-readEH = 10
+abbrev pub read_eh : ℕ
+read_eh = 10
 
-abbrev pub readBF : ℕ
-readBF = 11
+abbrev pub read_bf : ℕ
+read_bf = 11
 
-abbrev pub backDated : ℕ
-backDated = 12
+abbrev pub back_dated : ℕ
+back_dated = 12
 
-abbrev pub readDF : ℕ
-readDF = 13
+abbrev pub read_df : ℕ
+read_df = 13
 
-abbrev pub indicatorOnOpening : ℕ
-indicatorOnOpening = 14
+abbrev pub indicator_on_opening : ℕ
+indicator_on_opening = 14
 
-abbrev pub noOriginal : ℕ
-noOriginal = 15
+abbrev pub no_original : ℕ
+no_original = 15
 
 abbrev pub full : ℕ
 full = 16
 
-abbrev pub readEE : ℕ
-readEE = 17
+abbrev pub read_ee : ℕ
+read_ee = 17
 
-abbrev pub readEF : ℕ
-readEF = 18
+abbrev pub read_ef : ℕ
+read_ef = 18
 
 abbrev pub low : ℕ
 low = 19
@@ -64,14 +64,14 @@ low = 19
 abbrev pub high : ℕ
 high = 20
 
-abbrev pub overCapacity : ℕ
-overCapacity = 21
+abbrev pub over_capacity : ℕ
+over_capacity = 21
 
-abbrev pub notStanding : ℕ
-notStanding = 22
+abbrev pub not_standing : ℕ
+not_standing = 22
 
-abbrev pub notLast : ℕ
-notLast = 23
+abbrev pub not_last : ℕ
+not_last = 23
 
 abbrev pub enrolled : ℕ
 enrolled = 24
@@ -79,16 +79,16 @@ enrolled = 24
 abbrev pub plate : ℕ
 plate = 25
 
-abbrev pub sheetFault : ℕ
-sheetFault = 26
+abbrev pub sheet_fault : ℕ
+sheet_fault = 26
 
 -- 02, 2
-abbrev pub noFold : ℕ
-noFold = 27
+abbrev pub no_fold : ℕ
+no_fold = 27
 
-abbrev pub oldestKept : ℕ
-oldestKept = 28
+abbrev pub oldest_kept : ℕ
+oldest_kept = 28
 
 -- 02, 4
-abbrev pub otherType : ℕ
-otherType = 29
+abbrev pub other_type : ℕ
+other_type = 29

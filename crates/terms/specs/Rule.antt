@@ -11,6 +11,6 @@ abbrev pub rule : ℕ → Bool → Rule
 rule number broken = record { number = number; broken = broken }
 
 -- the number of the first rule broken, and 0 where none is
-abbrev pub firstBroken : List Rule → ℕ
-firstBroken [] = accepted
-firstBroken (r ∷ rs) = cond r.broken r.number (firstBroken rs)
+abbrev pub first_broken : List Rule → ℕ
+first_broken [] = accepted
+first_broken (r ∷ rs) = cond r.broken r.number (first_broken rs)

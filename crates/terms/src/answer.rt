@@ -1,6 +1,6 @@
 // What the calls answer.
 ghost use Rattle.std.specs.Prelude.{◌≡◌};
-ghost use Rattle.terms.specs.Answer.{acceptance, refusal, refusedReport};
+ghost use Rattle.terms.specs.Answer.{acceptance, refusal, refused_report};
 
 use crate::number::Number;
 
@@ -44,7 +44,7 @@ pub fn refuse(number: u8) -> Answer
 }
 
 pub fn refuse_report(number: u8) -> Report
-    ensures { result ≡ refusedReport number }
+    ensures { result ≡ refused_report number }
 {
     Report {
         number,

@@ -1,6 +1,6 @@
 // The types of a read, each an ASCII letter, and the classes that the rules tell apart.
 ghost use Rattle.std.specs.Prelude.{◌≡◌};
-ghost use Rattle.terms.specs.Letter.{isKnown, isOpening, isHoldable, isUnchecked};
+ghost use Rattle.terms.specs.Letter.{is_known, is_opening, is_holdable, is_unchecked};
 
 #[derive(Drop)]
 pub struct Letter;
@@ -31,14 +31,14 @@ impl Letter {
 
 // I or O: a read that opens a journal.
 pub fn is_opening(letter: u8) -> bool
-    ensures { result ≡ isOpening letter }
+    ensures { result ≡ is_opening letter }
 {
     (letter == Letter::INITIAL) | (letter == Letter::OPENING)
 }
 
 // C U R T S F X or E: a read that may be held.
 pub fn is_holdable(letter: u8) -> bool
-    ensures { result ≡ isHoldable letter }
+    ensures { result ≡ is_holdable letter }
 {
     (letter == Letter::CYCLIC)
         | ((letter == Letter::CUSTOMER)
@@ -51,7 +51,7 @@ pub fn is_holdable(letter: u8) -> bool
 
 // I, O or Y: a read that has no volume check.
 pub fn is_unchecked(letter: u8) -> bool
-    ensures { result ≡ isUnchecked letter }
+    ensures { result ≡ is_unchecked letter }
 {
     (letter == Letter::INITIAL) | ((letter == Letter::OPENING) | (letter == Letter::RECONNECTION))
 }
@@ -66,7 +66,7 @@ impl Letters {
 
 // One of the eleven types.
 pub fn is_known(letter: u8) -> bool
-    ensures { result ≡ isKnown letter }
+    ensures { result ≡ is_known letter }
 {
     if letter < 64 {
         return false;

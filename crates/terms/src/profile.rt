@@ -1,6 +1,6 @@
 // What kind of meter an area holds, and which types of read such a meter takes.
 ghost use Rattle.std.specs.Prelude.{◌≡◌};
-ghost use Rattle.terms.specs.Profile.{meterKind, profileOf, takes};
+ghost use Rattle.terms.specs.Profile.{meter_kind, profile_of, takes};
 
 use crate::entry::Kind;
 use crate::letter::{Letter, is_known};
@@ -15,7 +15,7 @@ pub enum Profile {
 
 // The kind byte of its entry in a journal.
 pub fn meter_kind(profile: Profile) -> u8
-    ensures { result ≡ meterKind profile }
+    ensures { result ≡ meter_kind profile }
 {
     match profile {
         Profile::Ordinary => Kind::METER,
@@ -25,7 +25,7 @@ pub fn meter_kind(profile: Profile) -> u8
 
 // The profile that a kind byte says. Whether it is a meter's at all is asked apart.
 pub fn profile_of(kind: u8) -> Profile
-    ensures { result ≡ profileOf kind }
+    ensures { result ≡ profile_of kind }
 {
     if kind == Kind::PSEUDO {
         return Profile::Pseudo;

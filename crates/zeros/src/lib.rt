@@ -1,6 +1,6 @@
 // Bytes that are zero to the end, as an area with no meter is, and an area after its journal.
 ghost use Rattle.std.specs.Prelude.{◌≡◌, ◌+◌, ◌≤◌, ◌<◌, length, drop};
-ghost use Rattle.register.specs.Area.{allZero};
+ghost use Rattle.register.specs.Area.{all_zero};
 
 use crate::lanes::{Lanes, block_at, eight_at, four_at};
 
@@ -15,7 +15,7 @@ impl Block {
 
 // Every byte from a place on is zero: one by one, for few bytes.
 fn few_zero_from(bytes: &[u8], from: usize) -> bool
-    ensures { result ≡ allZero (drop from bytes.now) }
+    ensures { result ≡ all_zero (drop from bytes.now) }
 {
     let mut zero = true;
     let mut i = from;
@@ -29,7 +29,7 @@ fn few_zero_from(bytes: &[u8], from: usize) -> bool
 // Blocks from a byte on, up to the last block, which comes first: the one before it may overlap it.
 fn blocks_zero_from(bytes: &[u8], from: usize, last: usize) -> bool
     requires { (from ≤ last) × (last + 128 ≡ length bytes.now) }
-    ensures { result ≡ allZero (drop from bytes.now) }
+    ensures { result ≡ all_zero (drop from bytes.now) }
 {
     let mut lanes = block_at(Lanes { low: 0, high: 0 }, bytes, last);
     let mut i = from;
@@ -43,7 +43,7 @@ fn blocks_zero_from(bytes: &[u8], from: usize, last: usize) -> bool
 // Eight bytes at a time from one on, up to the last eight, which come first: those before them may overlap them.
 fn eights_zero_from(bytes: &[u8], from: usize, last: usize) -> bool
     requires { (from ≤ last) × (last + 8 ≡ length bytes.now) }
-    ensures { result ≡ allZero (drop from bytes.now) }
+    ensures { result ≡ all_zero (drop from bytes.now) }
 {
     let mut bits = eight_at(bytes, last);
     let mut i = from;
@@ -57,7 +57,7 @@ fn eights_zero_from(bytes: &[u8], from: usize, last: usize) -> bool
 // Four bytes to seven: the first four and the last four, which overlap.
 fn fours_zero_from(bytes: &[u8], from: usize, last: usize) -> bool
     requires { (from ≤ last) × (last < from + 4) × (last + 4 ≡ length bytes.now) }
-    ensures { result ≡ allZero (drop from bytes.now) }
+    ensures { result ≡ all_zero (drop from bytes.now) }
 {
     (four_at(bytes, from) | four_at(bytes, last)) == 0
 }
@@ -65,7 +65,7 @@ fn fours_zero_from(bytes: &[u8], from: usize, last: usize) -> bool
 // Fewer bytes than a block, as a journal that is nearly full leaves.
 fn rest_zero_from(bytes: &[u8], from: usize) -> bool
     requires { 8 ≤ length bytes.now }
-    ensures { result ≡ allZero (drop from bytes.now) }
+    ensures { result ≡ all_zero (drop from bytes.now) }
 {
     let eight = bytes.len() - 8;
     if from <= eight {
@@ -80,7 +80,7 @@ fn rest_zero_from(bytes: &[u8], from: usize) -> bool
 
 // Every byte from a place on is zero.
 pub fn is_zero_from(bytes: &[u8], from: usize) -> bool
-    ensures { result ≡ allZero (drop from bytes.now) }
+    ensures { result ≡ all_zero (drop from bytes.now) }
 {
     if bytes.len() < Block::BYTES {
         return few_zero_from(bytes, from);
@@ -94,7 +94,7 @@ pub fn is_zero_from(bytes: &[u8], from: usize) -> bool
 
 // Every byte is zero. One by one, since the compiler takes sixteen at a time by itself where it knows how many there are, as of an area.
 pub fn is_zero(bytes: &[u8]) -> bool
-    ensures { result ≡ allZero bytes.now }
+    ensures { result ≡ all_zero bytes.now }
 {
     few_zero_from(bytes, 0)
 }

@@ -6,5 +6,5 @@ pub record Within (z : ℤ) (m : ℕ) : Type 0 where
   pub within : nat_abs z ≤ m
 
 -- the most that an advance can be from 0: two values of 4 bytes and 255 flags of at most 10^9
-abbrev pub advanceMost : ℕ
-advanceMost = 259294967295
+abbrev pub advance_most : ℕ
+advance_most = 259294967295

@@ -3,11 +3,11 @@ use Rattle.std.specs.Prelude.{cond, ℕ, ◌+◌}
 use Rattle.terms.specs.declared.entry.Slot.{Slot}
 use Rattle.terms.specs.declared.entry.Slot.TheVariants.{Read, Empty}
 use Rattle.terms.specs.declared.entry.Recent.{Recent}
-use Rattle.journal.specs.Journal.{isFlagged}
+use Rattle.journal.specs.Journal.{is_flagged}
 
-unfoldable pub flagIn : Slot → ℕ
-flagIn (Read e) = cond (isFlagged e) 1 0
-flagIn Empty = 0
+unfoldable pub flag_in : Slot → ℕ
+flag_in (Read e) = cond (is_flagged e) 1 0
+flag_in Empty = 0
 
-unfoldable pub flagsIn : Recent → ℕ
-flagsIn kept = flagIn kept.last + flagIn kept.second + flagIn kept.third
+unfoldable pub flags_in : Recent → ℕ
+flags_in kept = flag_in kept.last + flag_in kept.second + flag_in kept.third

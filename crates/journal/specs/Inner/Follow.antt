@@ -3,23 +3,23 @@ use Rattle.std.specs.Prelude.{Bool, false, not, ◌&&◌, ◌||◌}
 use Rattle.terms.specs.declared.entry.Entry.{Entry}
 use Rattle.terms.specs.declared.entry.Slot.{Slot}
 use Rattle.terms.specs.declared.entry.Slot.TheVariants.{Read, Empty}
-use Rattle.terms.specs.Letter.{isOpening, isHoldable}
-use Rattle.terms.specs.Entry.{isStanding, is_held}
+use Rattle.terms.specs.Letter.{is_opening, is_holdable}
+use Rattle.terms.specs.Entry.{is_standing, is_held}
 use Rattle.register.specs.declared.head.Head.{Head}
-use Rattle.journal.specs.Journal.{isThere}
-use Rattle.journal.specs.Sound.{isFinalRead, isRead, isLater, opens}
+use Rattle.journal.specs.Journal.{is_there}
+use Rattle.journal.specs.Sound.{is_final_read, is_read, is_later, opens}
 
-unfoldable pub isAfter : Entry → Slot → Bool
-isAfter e (Read last) = isLater e last
-isAfter e Empty = false
+unfoldable pub is_after : Entry → Slot → Bool
+is_after e (Read last) = is_later e last
+is_after e Empty = false
 
-unfoldable pub mayStand : Head → Entry → Slot → Bool
-mayStand head e (Read last) = isLater e last && not (isOpening e.letter)
-mayStand head e Empty = opens head e
+unfoldable pub may_stand : Head → Entry → Slot → Bool
+may_stand head e (Read last) = is_later e last && not (is_opening e.letter)
+may_stand head e Empty = opens head e
 
-unfoldable pub mayFollow : Head → Entry → Slot → Slot → Bool → Bool
-mayFollow head e last held ended =
-    isRead head e
-    && (not (isThere held)
-    && ((not (isStanding e) || (mayStand head e last && not (isFinalRead e && ended)))
-    && (not (is_held e) || (isHoldable e.letter && (isAfter e last && not (isFinalRead e && ended))))))
+unfoldable pub may_follow : Head → Entry → Slot → Slot → Bool → Bool
+may_follow head e last held ended =
+    is_read head e
+    && (not (is_there held)
+    && ((not (is_standing e) || (may_stand head e last && not (is_final_read e && ended)))
+    && (not (is_held e) || (is_holdable e.letter && (is_after e last && not (is_final_read e && ended))))))

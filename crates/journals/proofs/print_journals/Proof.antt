@@ -5,47 +5,47 @@ use borrow.Author.Rules.{rules}
 use Rattle.journals.proofs.print_journals.Statement.{statement}
 use Rattle.journals.proofs.print_journals.Tie as tie
 
-abbrev invariant-loop : tie.invariant-loop
-invariant-loop register place₀ place = Unit
+abbrev invariant_loop : tie.invariant_loop
+invariant_loop register place₀ place = Unit
 
-abbrev decreases-loop : tie.decreases-loop
-decreases-loop register place₀ place = 64 - place
+abbrev decreases_loop : tie.decreases_loop
+decreases_loop register place₀ place = 64 - place
 
-loop-holds : tie.Need-loop-init invariant-loop decreases-loop
-loop-holds c = tt
+loop_holds : tie.Need-loop-init invariant_loop decreases_loop
+loop_holds c = tt
 
-cast-print-journal : tie.Need-overflow-cast-print-journal invariant-loop decreases-loop
-cast-print-journal c = search rules
+cast_print_journal : tie.Need-overflow-cast-print-journal invariant_loop decreases_loop
+cast_print_journal c = search rules
 
-journal-requires : tie.Need-journal-requires invariant-loop decreases-loop
-journal-requires c κs = search rules
+journal_requires : tie.Need-journal-requires invariant_loop decreases_loop
+journal_requires c κs = search rules
 
-print-journal-requires : tie.Need-print-journal-requires invariant-loop decreases-loop
-print-journal-requires c κs = search rules
+print_journal_requires : tie.Need-print-journal-requires invariant_loop decreases_loop
+print_journal_requires c κs = search rules
 
-add-place : tie.Need-overflow-add-place invariant-loop decreases-loop
-add-place c = search rules
+add_place : tie.Need-overflow-add-place invariant_loop decreases_loop
+add_place c = search rules
 
-loop-less : tie.Need-loop-smaller invariant-loop decreases-loop
-loop-less c = omega (arith, c.before.before.loop-test.true)
+loop_less : tie.Need-loop-smaller invariant_loop decreases_loop
+loop_less c = omega (arith, c.before.before.loop_test.true)
 
-loop-again : tie.Need-loop-preserved invariant-loop decreases-loop
-loop-again c = tt
+loop_again : tie.Need-loop-preserved invariant_loop decreases_loop
+loop_again c = tt
 
-returns : tie.Need-returns invariant-loop decreases-loop
+returns : tie.Need-returns invariant_loop decreases_loop
 returns c = search rules
 
-pub print-journals-spec : {M : Type 1} → statement M
-print-journals-spec =
+pub print_journals_spec : {M : Type 1} → statement M
+print_journals_spec =
     tie.close
     (tie.spec
-    invariant-loop
-    decreases-loop
-    loop-holds
-    cast-print-journal
-    journal-requires
-    print-journal-requires
-    add-place
-    loop-less
-    loop-again
+    invariant_loop
+    decreases_loop
+    loop_holds
+    cast_print_journal
+    journal_requires
+    print_journal_requires
+    add_place
+    loop_less
+    loop_again
     returns)

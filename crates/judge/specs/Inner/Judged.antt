@@ -1,51 +1,51 @@
 -- What an area is, with what is counted of a sound one's entries.
 use Rattle.std.specs.Prelude.{◌≡◌, Bool, true, false, not, ◌&&◌, cond, List, ℕ, eqb, length, drop}
-use Rattle.arithmetic.specs.Powers.{tenTo}
+use Rattle.arithmetic.specs.Powers.{ten_to}
 use Rattle.terms.specs.declared.entry.Entry.{Entry}
 use Rattle.terms.specs.declared.entry.Slot.{Slot}
 use Rattle.terms.specs.declared.entry.Slot.TheVariants.{Read, Empty}
 use Rattle.terms.specs.Entry.{those, slot_at}
-use Rattle.terms.specs.Rule.{firstBroken}
-use Rattle.register.specs.Area.{area_bytes, allZero}
+use Rattle.terms.specs.Rule.{first_broken}
+use Rattle.register.specs.Area.{area_bytes, all_zero}
 use Rattle.register.specs.declared.head.Head.{Head}
-use Rattle.register.specs.Entries.{entryStart}
-use Rattle.register.specs.Head.{mostEntries}
+use Rattle.register.specs.Entries.{entry_start}
+use Rattle.register.specs.Head.{most_entries}
 use Rattle.judge.specs.declared.area.Counts.{Counts}
 use Rattle.judge.specs.declared.area.Summary.{Summary}
 use Rattle.judge.specs.declared.area.Judged.{Judged}
 use Rattle.judge.specs.declared.area.Judged.TheVariants.{Zero, Damaged, Sound}
 use Rattle.judge.specs.declared.area.Judgement.{Judgement}
-use Rattle.journal.specs.Journal.{Journal, journalOf, entriesTo, countFrom, standing, withdrawn, kept, isFlagged, firstValue, newestAt}
-use Rattle.journal.specs.Numbers.{areaRules}
-use Rattle.judge.specs.Numbers.{judgedNumber}
-use Rattle.journal.specs.Sound.{isSound, areSound, any, hasRead, isFinalRead}
-use Rattle.judge.specs.Inner.Run.{lastDay}
+use Rattle.journal.specs.Journal.{Journal, journal_of, entries_to, count_from, standing, withdrawn, kept, is_flagged, first_value, newest_at}
+use Rattle.journal.specs.Numbers.{area_rules}
+use Rattle.judge.specs.Numbers.{judged_number}
+use Rattle.journal.specs.Sound.{is_sound, are_sound, any, has_read, is_final_read}
+use Rattle.judge.specs.Inner.Run.{last_day}
 
 -- the value of a read, and 0 where there is none
 unfoldable pub value_of : Slot → ℕ
 value_of (Read e) = e.value
 value_of Empty = 0
 
-unfoldable pub countsOf : List Entry → Counts
-countsOf es =
+unfoldable pub counts_of : List Entry → Counts
+counts_of es =
     record {
       kept = kept es;
       standing = length (standing es);
-      flagged = length (those isFlagged (standing es));
-      first = firstValue (standing es);
-      newest = newestAt es;
+      flagged = length (those is_flagged (standing es));
+      first = first_value (standing es);
+      newest = newest_at es;
     }
 
-unfoldable pub summaryOf : Journal → Summary
-summaryOf j =
+unfoldable pub summary_of : Journal → Summary
+summary_of j =
     record {
       head = j.head;
-      counts = countsOf j.entries;
+      counts = counts_of j.entries;
       last = value_of (slot_at (standing j.entries) 0);
-      day = lastDay j.entries;
-      limit = tenTo j.head.dials;
+      day = last_day j.entries;
+      limit = ten_to j.head.dials;
       entries = length j.entries;
-      ended = any isFinalRead (standing j.entries);
+      ended = any is_final_read (standing j.entries);
     }
 
 -- an area is all zero, sound or damaged; what is lent as one and is not 512 bytes long is no journal
@@ -53,41 +53,41 @@ unfoldable pub judged : List ℕ → Judged
 judged area =
     cond (not (eqb (length area) area_bytes))
     Damaged
-    (cond (allZero area) Zero (cond (isSound area) (Sound (summaryOf (journalOf area))) Damaged))
+    (cond (all_zero area) Zero (cond (is_sound area) (Sound (summary_of (journal_of area))) Damaged))
 
 -- a body that follows a head: how many entries it has, and whether they are sound and zeros follow them
-abbrev pub countIn : Head → List ℕ → ℕ
-countIn head body = countFrom (mostEntries head) 0 body
+abbrev pub count_in : Head → List ℕ → ℕ
+count_in head body = count_from (most_entries head) 0 body
 
-unfoldable pub isWhole : Head → List ℕ → Bool
-isWhole head body =
-    allZero (drop (entryStart (countIn head body)) body)
-    && areSound head (entriesTo (countIn head body) body)
+unfoldable pub is_whole : Head → List ℕ → Bool
+is_whole head body =
+    all_zero (drop (entry_start (count_in head body)) body)
+    && are_sound head (entries_to (count_in head body) body)
 
-unfoldable pub judgedBody : Head → List ℕ → Judged
-judgedBody head body =
-    cond (isWhole head body)
-    (Sound (summaryOf (record { head = head; entries = entriesTo (countIn head body) body })))
+unfoldable pub judged_body : Head → List ℕ → Judged
+judged_body head body =
+    cond (is_whole head body)
+    (Sound (summary_of (record { head = head; entries = entries_to (count_in head body) body })))
     Damaged
 
 -- what a judgement answers: what was found, and with it the number of the area
 pub record Judges (area : List ℕ) (found : Judged) : Type 0 where
-  pub found-is : found ≡ judged area
-  pub number_is : length area ≡ area_bytes → judgedNumber found ≡ firstBroken (areaRules area)
+  pub found_is : found ≡ judged area
+  pub number_is : length area ≡ area_bytes → judged_number found ≡ first_broken (area_rules area)
 
 -- whether a read that is asked for is among the withdrawn ones of a sound journal
-unfoldable pub amongIn : Judged → List ℕ → ℕ → ℕ → Bool
-amongIn Zero body day value = false
-amongIn Damaged body day value = false
-amongIn (Sound t) body day value = any (hasRead day value) (withdrawn (entriesTo t.entries body))
+unfoldable pub among_in : Judged → List ℕ → ℕ → ℕ → Bool
+among_in Zero body day value = false
+among_in Damaged body day value = false
+among_in (Sound t) body day value = any (has_read day value) (withdrawn (entries_to t.entries body))
 
 -- what was found, and the answer about a read
 pub record Answers (found : Judged) (body : List ℕ) (day value : ℕ) (r : Judgement) : Type 0 where
-  pub found-is : r.found ≡ found
-  pub withdrawn-is : r.withdrawn ≡ amongIn found body day value
+  pub found_is : r.found ≡ found
+  pub withdrawn_is : r.withdrawn ≡ among_in found body day value
 
 -- an area is sound, and this is what was counted of it
 pub record Counted (area : List ℕ) (t : Summary) : Type 0 where
   pub long : length area ≡ area_bytes
-  pub sound : isSound area ≡ true
-  pub summary : t ≡ summaryOf (journalOf area)
+  pub sound : is_sound area ≡ true
+  pub summary : t ≡ summary_of (journal_of area)

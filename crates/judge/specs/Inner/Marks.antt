@@ -6,8 +6,8 @@ use Rattle.std.specs.Int.Bits.{bit_or}
 unfoldable pub mark_of : ℕ → ℕ → ℕ
 mark_of marks v = marks / 2 ^ (v % 64) % 2
 
-abbrev pub isMarked : ℕ → ℕ → Bool
-isMarked marks v = eqb (mark_of marks v) 1
+abbrev pub is_marked : ℕ → ℕ → Bool
+is_marked marks v = eqb (mark_of marks v) 1
 
-unfoldable pub markOn : ℕ → ℕ → ℕ
-markOn marks v = bit_or marks (2 ^ (v % 64))
+unfoldable pub mark_on : ℕ → ℕ → ℕ
+mark_on marks v = bit_or marks (2 ^ (v % 64))

@@ -3,26 +3,26 @@ use Rattle.std.specs.Prelude.{List, ℕ, length}
 use Rattle.terms.specs.declared.entry.Entry.{Entry}
 use Rattle.terms.specs.Entry.{those, slot_at}
 use Rattle.judge.specs.declared.run.Run.{Run}
-use Rattle.journal.specs.Journal.{standing, isFlagged, firstValue, newestAt, dayOf}
+use Rattle.journal.specs.Journal.{standing, is_flagged, first_value, newest_at, day_of}
 
 -- the day of the last standing read, and 0 where none stands
-abbrev pub lastDay : List Entry → ℕ
-lastDay es = dayOf (slot_at (standing es) 0)
+abbrev pub last_day : List Entry → ℕ
+last_day es = day_of (slot_at (standing es) 0)
 
 unfoldable pub run_of : List Entry → Run
 run_of es =
     record {
-      first = firstValue (standing es);
-      day = lastDay es;
+      first = first_value (standing es);
+      day = last_day es;
       count = length es;
       standing = length (standing es);
-      flagged = length (those isFlagged (standing es));
-      newest = newestAt es;
+      flagged = length (those is_flagged (standing es));
+      newest = newest_at es;
     }
 
 -- a run after plain entries alone, to a count
-unfoldable pub ranTo : Run → ℕ → ℕ → ℕ → ℕ → Run
-ranTo from count day newest standing =
+unfoldable pub ran_to : Run → ℕ → ℕ → ℕ → ℕ → Run
+ran_to from count day newest standing =
     record {
       first = from.first;
       day = day;

@@ -42,11 +42,11 @@ use denote.Exit.{yes}
 use Rattle.tally.specs.declared.tally.Tally.{Tally}
 use Rattle.tally.specs.contracts.tally.Tally as T
 use Rattle.tally.proofs.tally.Tally.TheLaws as T'
-use Rattle.necktureen.specs.Told.{toldOf}
+use Rattle.necktureen.specs.Told.{told_of}
 use Rattle.necktureen.specs.contracts.told.told as told
-use Rattle.necktureen.proofs.told.told.Symbol as told-def
+use Rattle.necktureen.proofs.told.told.Symbol as told_def
 use Rattle.necktureen.proofs.told.told.Symbol.{name as #necktureen·told·told}
-use Rattle.necktureen.proofs.told.told.Met as told-thm
+use Rattle.necktureen.proofs.told.told.Met as told_thm
 use Rattle.necktureen.specs.contracts.necktureen_tally_change.Key.{name as #necktureen·necktureen-tally-change}
 use Rattle.necktureen.specs.contracts.necktureen_tally_change as f
 use Rattle.necktureen.proofs.necktureen_tally_change.Statement as stated
@@ -59,12 +59,12 @@ Numbers = u8 ∷ u8 ∷ u32 ∷ u8 ∷ u8 ∷ i64 ∷ []
 abbrev written : Spells Numbers
 written = (uint_vals w8, (uint_vals w8, (uint_vals w32, (uint_vals w8, (uint_vals w8, (sint_vals w64, tt))))))
 
-abbrev number-tells : Tellss Numbers (Ises Numbers) written
-number-tells = (uint_Tells w8, (uint_Tells w8, (uint_Tells w32, (uint_Tells w8, (uint_Tells w8, (sint_Tells w64, tt))))))
+abbrev number_tells : Tellss Numbers (Ises Numbers) written
+number_tells = (uint_Tells w8, (uint_Tells w8, (uint_Tells w32, (uint_Tells w8, (uint_Tells w8, (sint_Tells w64, tt))))))
 
 -- the tally that the contracts name, of the numbers and the old tally
 abbrev new : Denots Numbers → Tally → Tally
-new ns = toldOf ns.0 ns.1.0 ns.1.1.0 ns.1.1.1.0 ns.1.1.1.1.0 ns.1.1.1.1.1.0
+new ns = told_of ns.0 ns.1.0 ns.1.1.0 ns.1.1.1.0 ns.1.1.1.1.0 ns.1.1.1.1.1.0
 
 abbrev vals : Tally → List Val
 vals = LL.vals T.the_type T'.the_laws
@@ -111,13 +111,13 @@ module _ {M : Type 1} {𝓤 : Ura M} (𝓛 : Logic 𝓤) (at_mem : Memory → SP
       feq_i ! (List Val) (vunit ∷ []) (vunit ∷ []) refl $ move ! (1 ∷ 0 ∷ []) $ done !
 
   -- what `told`'s triple binds outside: the old tally and the numbers
-  abbrev to-told : (Told 𝓛 at_mem run).Ghost
-  to-told = ((tt, tt, tt, (h, ns), (vals h, nvs)), tt)
+  abbrev to_told : (Told 𝓛 at_mem run).Ghost
+  to_told = ((tt, tt, tt, (h, ns), (vals h, nvs)), tt)
 
-  goes-told : Known → ent 𝓤 (sem 𝓛 ((T.the_row).own_val h (vals h))) ((Told 𝓛 at_mem run).pre to-told)
-  goes-told known = qed 𝓛 (‵ ((T.the_row).own_val h (vals h)) ∷ []) ∵ use0 𝓛 (‵ (owns Numbers ns nvs)) (numbers known) $ move ! (1 ∷ 0 ∷ []) $ fjoin ! $ nothing ! $ join ! $ frame ! $ done !
+  goes_told : Known → ent 𝓤 (sem 𝓛 ((T.the_row).own_val h (vals h))) ((Told 𝓛 at_mem run).pre to_told)
+  goes_told known = qed 𝓛 (‵ ((T.the_row).own_val h (vals h)) ∷ []) ∵ use0 𝓛 (‵ (owns Numbers ns nvs)) (numbers known) $ move ! (1 ∷ 0 ∷ []) $ fjoin ! $ nothing ! $ join ! $ frame ! $ done !
 
-  module _ (C : Calls 𝓤 H) (Λ : Loops 𝓤 H) (fm : FmC 𝓤 H 𝓛.laws C) (told-known : Triple 𝓤 (C #necktureen·told·told) (Told 𝓛 at_mem run)) (known : Known) where
+  module _ (C : Calls 𝓤 H) (Λ : Loops 𝓤 H) (fm : FmC 𝓤 H 𝓛.laws C) (told_known : Triple 𝓤 (C #necktureen·told·told) (Told 𝓛 at_mem run)) (known : Known) where
     walk : ent 𝓤 (on_entry 𝓛 f.signature (κ, tt) (q, tt) x at) (WpFn 𝓤 H C Λ code.function (vptr b o ∷ flat Numbers nvs) Post)
     walk =
         qed 𝓛 ((‵ (flft κ q) ⊛ ‵ ftrue) ∷ ‵ (owns (MutRef (named 0) κ T.the_row ∷ Numbers) x at) ∷ []) ∵ split ! $ move ! (2 ∷ []) $ fsplit ! $ fsplit3 ! $ drop ! $ move ! (0 ∷ 1 ∷ 3 ∷ []) $
@@ -130,9 +130,9 @@ module _ {M : Type 1} {𝓤 : Ura M} (𝓛 : Logic 𝓤) (at_mem : Memory → SP
         move ! (1 ∷ []) $ peeks ! T.the_row (Is T.the_row) (shows 𝓛 T.the_row) h (vals h) (λ was. move ! (1 ∷ 0 ∷ []) $
         -- [the tally's cell; what a Tally owns; the open borrow; obs; auth; room for _9; …; room for _8; …; _7; …; _6; …; _5; …; _4; …; _3; …; _2; …; _1; …; room for _0; …; what the numbers own; true]
         assigns ! (of_opd ! (load ! (from ! (hop ! (look ! 21 refl) (stop !))) (look_raw ! 0 refl))) (from ! (stop !)) (init ! 5 refl ((LL.lawful T.the_type T'.the_laws 𝓛).typed h _ was).0) $
-        move ! (1 ∷ []) $ use1 𝓛 (raw ((Told 𝓛 at_mem run).pre to-told)) (goes-told known) $
+        move ! (1 ∷ []) $ use1 𝓛 (raw ((Told 𝓛 at_mem run).pre to_told)) (goes_told known) $
         -- [what `told` asks; the tally's cell; the open borrow; obs; auth; _9; …]
-        calls_at ! fm (Told 𝓛 at_mem run) told-known to-told
+        calls_at ! fm (Told 𝓛 at_mem run) told_known to_told
         (and_then ! (load ! (from ! (stop !)) (look ! 5 refl)) (and_then ! (load ! (from ! (stop !)) (look ! 19 refl)) (and_then ! (load ! (from ! (stop !)) (look ! 17 refl)) (and_then ! (load ! (from ! (stop !)) (look ! 15 refl))
         (and_then ! (load ! (from ! (stop !)) (look ! 13 refl)) (and_then ! (load ! (from ! (stop !)) (look ! 11 refl)) (and_then ! (load ! (from ! (stop !)) (look ! 9 refl)) (no_more !)))))))) (λ v.
         use1 𝓛 (later (some (λ (r : Tally). (‵ ftrue ⊛ ‵ ((T.the_row).own_val r (v ∷ []))) ⊛ raw (ensured 𝓛 told.ended (told.clauses 𝓛 at_mem run) tt (h, ns) tt r)))) (id⊢ 𝓤 _) $ await ! tt $ pick ! (λ r.
@@ -152,9 +152,9 @@ module _ {M : Type 1} {𝓤 : Ura M} (𝓛 : Logic 𝓤) (at_mem : Memory → SP
 module _ {M : Type 1} {𝓤 : Ura M} (𝓛 : Logic 𝓤) (at_mem : Memory → SProp 𝓤) (run : Routine → Fun 𝓤) where
   open 𝓛 use {H}
 
-  necktureen-tally-change-walks : (C : Calls 𝓤 H) (Λ : Loops 𝓤 H) → FmC 𝓤 H 𝓛.laws C → Triple 𝓤 (C #necktureen·told·told) (Told 𝓛 at_mem run) → Walks 𝓛 f.ended stayed (WpFn 𝓤 H C Λ code.function) (f.clauses 𝓛 at_mem run)
-  necktureen-tally-change-walks C Λ fm told-known = walked 𝓛 f.ended stayed (f.clauses 𝓛 at_mem run) (WpFn 𝓤 H C Λ code.function) (λ κs. (mut_vals, written)) (λ κs. (mut_Tells (named 0) κs.0 T.the_row, number-tells))
-      (λ κs qs bounds a _ are. via 𝓤 _ (fst∗ 𝓤 _ (emp 𝓤)) (walk 𝓛 at_mem run κs.0 qs.0 a.0.ref_ptr.0 a.0.ref_ptr.1 a.0.ghost_name a.0.now a.1 C Λ fm told-known are.1))
+  necktureen_tally_change_walks : (C : Calls 𝓤 H) (Λ : Loops 𝓤 H) → FmC 𝓤 H 𝓛.laws C → Triple 𝓤 (C #necktureen·told·told) (Told 𝓛 at_mem run) → Walks 𝓛 f.ended stayed (WpFn 𝓤 H C Λ code.function) (f.clauses 𝓛 at_mem run)
+  necktureen_tally_change_walks C Λ fm told_known = walked 𝓛 f.ended stayed (f.clauses 𝓛 at_mem run) (WpFn 𝓤 H C Λ code.function) (λ κs. (mut_vals, written)) (λ κs. (mut_Tells (named 0) κs.0 T.the_row, number_tells))
+      (λ κs qs bounds a _ are. via 𝓤 _ (fst∗ 𝓤 _ (emp 𝓤)) (walk 𝓛 at_mem run κs.0 qs.0 a.0.ref_ptr.0 a.0.ref_ptr.1 a.0.ghost_name a.0.now a.1 C Λ fm told_known are.1))
 
   goes : AllGo 𝓛 1 (f.signature).params (f.ended).kept stayed
   goes = (
@@ -171,16 +171,16 @@ module _ {M : Type 1} {𝓤 : Ura M} (𝓛 : Logic 𝓤) (at_mem : Memory → SP
     ),
   )
 
-necktureen-tally-change-meets : {M : Type 1} {𝓤 : Ura M} (𝓛 : Logic 𝓤) → (at_mem : Memory → SProp 𝓤) (run : Routine → Fun 𝓤) (𝓣 : Tables 𝓤 𝓛.H) → Triple 𝓤 (𝓣.C #necktureen·told·told) (Told 𝓛 at_mem run)
+necktureen_tally_change_meets : {M : Type 1} {𝓤 : Ura M} (𝓛 : Logic 𝓤) → (at_mem : Memory → SProp 𝓤) (run : Routine → Fun 𝓤) (𝓣 : Tables 𝓤 𝓛.H) → Triple 𝓤 (𝓣.C #necktureen·told·told) (Told 𝓛 at_mem run)
     → Meets 𝓛 f.signature (WpFn 𝓤 𝓛.H 𝓣.C 𝓣.Λ code.function) (f.spec 𝓛 at_mem run)
-necktureen-tally-change-meets {𝓤 = 𝓤} 𝓛 at_mem run 𝓣 told-known =
+necktureen_tally_change_meets {𝓤 = 𝓤} 𝓛 at_mem run 𝓣 told_known =
     walk_Meets 𝓛 f.ended stayed (goes 𝓛 at_mem run) (f.clauses 𝓛 at_mem run) (WpFn 𝓤 𝓛.H 𝓣.C 𝓣.Λ code.function) (WpFn-mono 𝓤 𝓛.H 𝓛.laws 𝓣 code.function)
-    (necktureen-tally-change-walks 𝓛 at_mem run 𝓣.C 𝓣.Λ (fm_of 𝓤 𝓛.H 𝓛.laws 𝓣) told-known)
+    (necktureen_tally_change_walks 𝓛 at_mem run 𝓣.C 𝓣.Λ (fm_of 𝓤 𝓛.H 𝓛.laws 𝓣) told_known)
 
-pub necktureen-tally-change-spec : {M : Type 1} → stated.statement M
+pub necktureen_tally_change_spec : {M : Type 1} → stated.statement M
 unfolding code.routine tables_of
-necktureen-tally-change-spec 𝓤 𝓛 𝓜 𝓡 =
+necktureen_tally_change_spec 𝓤 𝓛 𝓜 𝓡 =
     entered 𝓤 𝓛.H (triple_of 𝓛 f.signature (f.spec 𝓛 𝓜.mem 𝓡.run))
     (tables 𝓤 𝓛.H 𝓜 𝓡 code.env).C (tables 𝓤 𝓛.H 𝓜 𝓡 code.env).Λ #necktureen·necktureen-tally-change code.function (code.unfolded 𝓤 𝓛.H 𝓜 𝓡)
-    (necktureen-tally-change-meets 𝓛 𝓜.mem 𝓡.run (tables_of 𝓤 𝓛.H 𝓜 (tables 𝓤 𝓛.H 𝓜 𝓡 code.env))
-    (cited 𝓤 𝓛.H (Told 𝓛 𝓜.mem 𝓡.run) 𝓜 𝓡 code.env #necktureen·told·told told-def.routine code.calls-necktureen::told::told (told-thm.met 𝓤 𝓛 𝓜 𝓡)))
+    (necktureen_tally_change_meets 𝓛 𝓜.mem 𝓡.run (tables_of 𝓤 𝓛.H 𝓜 (tables 𝓤 𝓛.H 𝓜 𝓡 code.env))
+    (cited 𝓤 𝓛.H (Told 𝓛 𝓜.mem 𝓡.run) 𝓜 𝓡 code.env #necktureen·told·told told_def.routine code.calls_necktureen::told::told (told_thm.met 𝓤 𝓛 𝓜 𝓡)))

@@ -43,11 +43,11 @@ use Rattle.tally.specs.declared.tally.Tally.{Tally}
 use Rattle.tally.specs.contracts.tally.Tally as T
 use Rattle.tally.proofs.tally.Tally.TheLaws as T'
 use Rattle.terms.specs.Answer.{reported}
-use Rattle.tally.specs.Tally.{tallyReport}
-use Rattle.necktureen.specs.contracts.put_report as put-report
-use Rattle.necktureen.proofs.put_report.Symbol as put-report-def
+use Rattle.tally.specs.Tally.{tally_report}
+use Rattle.necktureen.specs.contracts.put_report as put_report
+use Rattle.necktureen.proofs.put_report.Symbol as put_report_def
 use Rattle.necktureen.proofs.put_report.Symbol.{name as #necktureen·put-report}
-use Rattle.necktureen.proofs.put_report.Met as put-report-thm
+use Rattle.necktureen.proofs.put_report.Met as put_report_thm
 use Rattle.necktureen.specs.contracts.necktureen_tally_report.Key.{name as #necktureen·necktureen-tally-report}
 use Rattle.necktureen.specs.contracts.necktureen_tally_report as f
 use Rattle.necktureen.proofs.necktureen_tally_report.Statement as stated
@@ -65,7 +65,7 @@ at_places xs = (shr_vals xs.0, (shr_vals xs.1.0, (shr_vals xs.1.1.0, tt)))
 
 -- what both contracts say of the result and the last values
 abbrev Says : Tally → ℕ → Ends → Type 0
-Says h r ws = reported r ws.1.0 ws.1.1.0 ws.1.1.1.0 ≡ tallyReport h
+Says h r ws = reported r ws.1.0 ws.1.1.0 ws.1.1.1.0 ≡ tally_report h
 
 abbrev vals : Tally → List Val
 vals = LL.vals T.the_type T'.the_laws
@@ -75,7 +75,7 @@ stayed = (stay_none_ref (0 ∷ []) tt (plain (λ _. T.the_row)) yes, (gave_ref (
 
 -- the contract that the proof cites
 abbrev PutReport : {M : Type 1} {𝓤 : Ura M} (𝓛 : Logic 𝓤) (at_mem : Memory → SProp 𝓤) (run : Routine → Fun 𝓤) → Contract 𝓤
-PutReport 𝓛 at_mem run = triple_of 𝓛 put-report.signature (put-report.spec 𝓛 at_mem run)
+PutReport 𝓛 at_mem run = triple_of 𝓛 put_report.signature (put_report.spec 𝓛 at_mem run)
 
 module _ {M : Type 1} {𝓤 : Ura M} (𝓛 : Logic 𝓤) (at_mem : Memory → SProp 𝓤) (run : Routine → Fun 𝓤) (κ : Lft) (κs : Lfts 3) (q : Share) (qs : Shares 3) (b o : ℕ) (γ : GName) (h : Tally) (xs : Places) where
   open 𝓛 use {H}
@@ -95,7 +95,7 @@ module _ {M : Type 1} {𝓤 : Ura M} (𝓛 : Logic 𝓤) (at_mem : Memory → SP
 
   -- what is said of the places' last values
   abbrev last : Ends → Fml
-  last ws = lasts put-report.ended κs (h, xs) ws
+  last ws = lasts put_report.ended κs (h, xs) ws
 
   abbrev bound : (walk_of 𝓛 f.ended stayed (f.clauses 𝓛 at_mem run)).Ghost
   bound = (((κ, κs), (q, qs), tt, x, at), tt)
@@ -111,11 +111,11 @@ module _ {M : Type 1} {𝓤 : Ura M} (𝓛 : Logic 𝓤) (at_mem : Memory → SP
       move ! (3 ∷ 1 ∷ []) $ join ! $ frame ! $ move ! (1 ∷ []) $ fsplit ! $ drop ! $ move ! (3 ∷ 2 ∷ 0 ∷ []) $ feq_i ! (List Val) (vptr b o ∷ []) (vptr b o ∷ []) refl $ fjoin3 ! $ fjoin ! $ done !
 
   -- what `put_report`'s triple binds outside: the tally, and the places as they were passed
-  abbrev to-put-report : (PutReport 𝓛 at_mem run).Ghost
-  to-put-report = ((κs, qs, tt, (h, xs), (vals h, at_places xs)), tt)
+  abbrev to_put_report : (PutReport 𝓛 at_mem run).Ghost
+  to_put_report = ((κs, qs, tt, (h, xs), (vals h, at_places xs)), tt)
 
-  goes-put-report : Is T.the_row h (vals h) → ent 𝓤 (sep 𝓤 (sem 𝓛 (owns Refs xs (at_places xs))) (mean 𝓛 tokens)) ((PutReport 𝓛 at_mem run).pre to-put-report)
-  goes-put-report was = qed 𝓛 (‵ (owns Refs xs (at_places xs)) ∷ tokens ∷ []) ∵ owned ! T.the_row (Is T.the_row) (LL.makes T.the_type T'.the_plain 𝓛) h _ was $ fjoin ! $ move ! (1 ∷ 0 ∷ []) $ join ! $ frame ! $ done !
+  goes_put_report : Is T.the_row h (vals h) → ent 𝓤 (sep 𝓤 (sem 𝓛 (owns Refs xs (at_places xs))) (mean 𝓛 tokens)) ((PutReport 𝓛 at_mem run).pre to_put_report)
+  goes_put_report was = qed 𝓛 (‵ (owns Refs xs (at_places xs)) ∷ tokens ∷ []) ∵ owned ! T.the_row (Is T.the_row) (LL.makes T.the_type T'.the_plain 𝓛) h _ was $ fjoin ! $ move ! (1 ∷ 0 ∷ []) $ join ! $ frame ! $ done !
 
   module _ (C : Calls 𝓤 H) (Λ : Loops 𝓤 H) (fm : FmC 𝓤 H 𝓛.laws C) (known : Triple 𝓤 (C #necktureen·put-report) (PutReport 𝓛 at_mem run)) where
     walk : ent 𝓤 (on_entry 𝓛 f.signature (κ, κs) (q, qs) x at) (WpFn 𝓤 H C Λ code.function (vptr b o ∷ flat Refs (at_places xs)) Post)
@@ -134,11 +134,11 @@ module _ {M : Type 1} {𝓤 : Ura M} (𝓛 : Logic 𝓤) (at_mem : Memory → SP
         assigns ! (addr ! (from ! (hop ! (look ! 14 refl) (stop !)))) (from ! (stop !)) (init ! 6 refl (tt, tt)) $
         assigns ! (addr ! (from ! (hop ! (look ! 12 refl) (stop !)))) (from ! (stop !)) (init ! 4 refl (tt, tt)) $
         assigns ! (addr ! (from ! (hop ! (look ! 10 refl) (stop !)))) (from ! (stop !)) (init ! 2 refl (tt, tt)) $
-        move ! (21 ∷ 22 ∷ []) $ use2 𝓛 (raw ((PutReport 𝓛 at_mem run).pre to-put-report)) (goes-put-report was) $
+        move ! (21 ∷ 22 ∷ []) $ use2 𝓛 (raw ((PutReport 𝓛 at_mem run).pre to_put_report)) (goes_put_report was) $
         -- [what `put_report` asks; the token; the fractured borrow; _8; …; _7; …; _6; …; _5; …; _4; …; _3; …; _2; …; _1; …; room for _0; …; res]
-        calls_at ! fm (PutReport 𝓛 at_mem run) known to-put-report
+        calls_at ! fm (PutReport 𝓛 at_mem run) known to_put_report
         (and_then ! (load ! (from ! (stop !)) (look ! 9 refl)) (and_then ! (load ! (from ! (stop !)) (look ! 7 refl)) (and_then ! (load ! (from ! (stop !)) (look ! 5 refl)) (and_then ! (load ! (from ! (stop !)) (look ! 3 refl)) (no_more !))))) (λ v.
-        use1 𝓛 (later (some (λ (r : ℕ). (tokens ⊛ ‵ (u8.own_val r (v ∷ []))) ⊛ raw (ensured 𝓛 put-report.ended (put-report.clauses 𝓛 at_mem run) κs (h, xs) tt r)))) (id⊢ 𝓤 _) $ await ! tt $ pick ! (λ r.
+        use1 𝓛 (later (some (λ (r : ℕ). (tokens ⊛ ‵ (u8.own_val r (v ∷ []))) ⊛ raw (ensured 𝓛 put_report.ended (put_report.clauses 𝓛 at_mem run) κs (h, xs) tt r)))) (id⊢ 𝓤 _) $ await ! tt $ pick ! (λ r.
         -- what `put_report` ensures, at some last values
         split ! $ move ! (1 ∷ []) $ use1 𝓛 (some (λ (ws : Ends). ‵ (last ws) ⊛ raw (fact 𝓤 (Says h r ws)))) (id⊢ 𝓤 _) $ pick ! (λ ws. split ! $ move ! (1 ∷ []) $ heard ! (Says h r ws) (λ e.
         move ! (1 ∷ []) $ split ! $ move ! (1 ∷ []) $ peeks ! u8 (Is u8) (shows 𝓛 u8) r (v ∷ []) (λ is.
@@ -152,8 +152,8 @@ module _ {M : Type 1} {𝓤 : Ura M} (𝓛 : Logic 𝓤) (at_mem : Memory → SP
 module _ {M : Type 1} {𝓤 : Ura M} (𝓛 : Logic 𝓤) (at_mem : Memory → SProp 𝓤) (run : Routine → Fun 𝓤) where
   open 𝓛 use {H}
 
-  necktureen-tally-report-walks : (C : Calls 𝓤 H) (Λ : Loops 𝓤 H) → FmC 𝓤 H 𝓛.laws C → Triple 𝓤 (C #necktureen·put-report) (PutReport 𝓛 at_mem run) → Walks 𝓛 f.ended stayed (WpFn 𝓤 H C Λ code.function) (f.clauses 𝓛 at_mem run)
-  necktureen-tally-report-walks C Λ fm known = walked 𝓛 f.ended stayed (f.clauses 𝓛 at_mem run) (WpFn 𝓤 H C Λ code.function) (λ κs. (shr_vals, (shr_vals, (shr_vals, (shr_vals, tt)))))
+  necktureen_tally_report_walks : (C : Calls 𝓤 H) (Λ : Loops 𝓤 H) → FmC 𝓤 H 𝓛.laws C → Triple 𝓤 (C #necktureen·put-report) (PutReport 𝓛 at_mem run) → Walks 𝓛 f.ended stayed (WpFn 𝓤 H C Λ code.function) (f.clauses 𝓛 at_mem run)
+  necktureen_tally_report_walks C Λ fm known = walked 𝓛 f.ended stayed (f.clauses 𝓛 at_mem run) (WpFn 𝓤 H C Λ code.function) (λ κs. (shr_vals, (shr_vals, (shr_vals, (shr_vals, tt)))))
       (λ κs. (shr_Tells (named 0) κs.0 T.the_row, (mut_Tells (named 1) κs.1.0 u16, (mut_Tells (named 2) κs.1.1.0 u16, (mut_Tells (named 3) κs.1.1.1.0 i64, tt)))))
       (λ κs qs bounds a _ _. via 𝓤 _ (fst∗ 𝓤 _ (emp 𝓤)) (walk 𝓛 at_mem run κs.0 κs.1 qs.0 qs.1 a.0.ref_ptr.0 a.0.ref_ptr.1 a.0.ghost_name a.0.now a.1 C Λ fm known))
 
@@ -163,16 +163,16 @@ module _ {M : Type 1} {𝓤 : Ura M} (𝓛 : Logic 𝓤) (at_mem : Memory → SP
     (Goes-gave_ref 𝓛 4 1 tt (plain (λ _. u16)), (Goes-gave_ref 𝓛 4 2 tt (plain (λ _. u16)), (Goes-gave_ref 𝓛 4 3 tt (plain (λ _. i64)), tt))),
   )
 
-necktureen-tally-report-meets : {M : Type 1} {𝓤 : Ura M} (𝓛 : Logic 𝓤) → (at_mem : Memory → SProp 𝓤) (run : Routine → Fun 𝓤) (𝓣 : Tables 𝓤 𝓛.H) → Triple 𝓤 (𝓣.C #necktureen·put-report) (PutReport 𝓛 at_mem run)
+necktureen_tally_report_meets : {M : Type 1} {𝓤 : Ura M} (𝓛 : Logic 𝓤) → (at_mem : Memory → SProp 𝓤) (run : Routine → Fun 𝓤) (𝓣 : Tables 𝓤 𝓛.H) → Triple 𝓤 (𝓣.C #necktureen·put-report) (PutReport 𝓛 at_mem run)
     → Meets 𝓛 f.signature (WpFn 𝓤 𝓛.H 𝓣.C 𝓣.Λ code.function) (f.spec 𝓛 at_mem run)
-necktureen-tally-report-meets {𝓤 = 𝓤} 𝓛 at_mem run 𝓣 known =
+necktureen_tally_report_meets {𝓤 = 𝓤} 𝓛 at_mem run 𝓣 known =
     walk_Meets 𝓛 f.ended stayed (goes 𝓛 at_mem run) (f.clauses 𝓛 at_mem run) (WpFn 𝓤 𝓛.H 𝓣.C 𝓣.Λ code.function) (WpFn-mono 𝓤 𝓛.H 𝓛.laws 𝓣 code.function)
-    (necktureen-tally-report-walks 𝓛 at_mem run 𝓣.C 𝓣.Λ (fm_of 𝓤 𝓛.H 𝓛.laws 𝓣) known)
+    (necktureen_tally_report_walks 𝓛 at_mem run 𝓣.C 𝓣.Λ (fm_of 𝓤 𝓛.H 𝓛.laws 𝓣) known)
 
-pub necktureen-tally-report-spec : {M : Type 1} → stated.statement M
+pub necktureen_tally_report_spec : {M : Type 1} → stated.statement M
 unfolding code.routine tables_of
-necktureen-tally-report-spec 𝓤 𝓛 𝓜 𝓡 =
+necktureen_tally_report_spec 𝓤 𝓛 𝓜 𝓡 =
     entered 𝓤 𝓛.H (triple_of 𝓛 f.signature (f.spec 𝓛 𝓜.mem 𝓡.run))
     (tables 𝓤 𝓛.H 𝓜 𝓡 code.env).C (tables 𝓤 𝓛.H 𝓜 𝓡 code.env).Λ #necktureen·necktureen-tally-report code.function (code.unfolded 𝓤 𝓛.H 𝓜 𝓡)
-    (necktureen-tally-report-meets 𝓛 𝓜.mem 𝓡.run (tables_of 𝓤 𝓛.H 𝓜 (tables 𝓤 𝓛.H 𝓜 𝓡 code.env))
-    (cited 𝓤 𝓛.H (PutReport 𝓛 𝓜.mem 𝓡.run) 𝓜 𝓡 code.env #necktureen·put-report put-report-def.routine code.calls-necktureen::put-report (put-report-thm.met 𝓤 𝓛 𝓜 𝓡)))
+    (necktureen_tally_report_meets 𝓛 𝓜.mem 𝓡.run (tables_of 𝓤 𝓛.H 𝓜 (tables 𝓤 𝓛.H 𝓜 𝓡 code.env))
+    (cited 𝓤 𝓛.H (PutReport 𝓛 𝓜.mem 𝓡.run) 𝓜 𝓡 code.env #necktureen·put-report put_report_def.routine code.calls_necktureen::put_report (put_report_thm.met 𝓤 𝓛 𝓜 𝓡)))

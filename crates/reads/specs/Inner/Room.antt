@@ -4,14 +4,14 @@ use Rattle.terms.specs.declared.entry.Slot.{Slot}
 use Rattle.terms.specs.declared.entry.Slot.TheVariants.{Empty}
 use Rattle.register.specs.Area.{area_bytes}
 use Rattle.register.specs.declared.head.Head.{Head}
-use Rattle.register.specs.Entries.{entryStart, entryAt}
-use Rattle.register.specs.Head.{headBytes, mostEntries}
-use Rattle.journal.specs.Journal.{slotIf}
+use Rattle.register.specs.Entries.{entry_start, entry_at}
+use Rattle.register.specs.Head.{head_bytes, most_entries}
+use Rattle.journal.specs.Journal.{slot_if}
 
 -- an area, and no more entries after its head than may follow it
-unfoldable pub hasRoom : List ℕ → Head → ℕ → Bool
-hasRoom area head m = eqb (length area) area_bytes && leb m (mostEntries head)
+unfoldable pub has_room : List ℕ → Head → ℕ → Bool
+has_room area head m = eqb (length area) area_bytes && leb m (most_entries head)
 
 -- the entry after k others
-unfoldable pub slotIn : List ℕ → Head → ℕ → Slot
-slotIn area head k = slotIf (hasRoom area head (suc k)) (entryAt (drop (headBytes head) area) (entryStart k)) Empty
+unfoldable pub slot_in : List ℕ → Head → ℕ → Slot
+slot_in area head k = slot_if (has_room area head (suc k)) (entry_at (drop (head_bytes head) area) (entry_start k)) Empty

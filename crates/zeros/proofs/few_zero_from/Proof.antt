@@ -8,45 +8,45 @@ use native.Mathlib.Omega.{arith}
 use lib.Dec.{eqb}
 use lib.ListN.{length, get_or, drop, drop_of_length-le}
 use lib.Seq.{drop-cons}
-use Rattle.register.specs.Area.{allZero}
+use Rattle.register.specs.Area.{all_zero}
 use Rattle.zeros.proofs.few_zero_from.Statement.{statement}
 use Rattle.zeros.proofs.few_zero_from.Tie as tie
 
-abbrev invariant-loop : tie.invariant-loop
-invariant-loop bytes from zero₀ i₀ zero i = zero && allZero (drop i bytes) ≡ allZero (drop from bytes)
+abbrev invariant_loop : tie.invariant_loop
+invariant_loop bytes from zero₀ i₀ zero i = zero && all_zero (drop i bytes) ≡ all_zero (drop from bytes)
 
-abbrev decreases-loop : tie.decreases-loop
-decreases-loop bytes from zero₀ i₀ zero i = length bytes - i
+abbrev decreases_loop : tie.decreases_loop
+decreases_loop bytes from zero₀ i₀ zero i = length bytes - i
 
-one_more : (zero : Bool) (l : List ℕ) (i : ℕ) → i < length l → zero && allZero (drop i l) ≡ (zero && eqb (get_or l i 0) 0) && allZero (drop (i + 1) l)
-unfolding allZero
+one_more : (zero : Bool) (l : List ℕ) (i : ℕ) → i < length l → zero && all_zero (drop i l) ≡ (zero && eqb (get_or l i 0) 0) && all_zero (drop (i + 1) l)
+unfolding all_zero
 one_more zero l i h = rw (add-one, drop-cons l i 0, and_assoc)
 
-none_left : (zero : Bool) (l : List ℕ) (i : ℕ) → length l ≤ i → zero && allZero (drop i l) ≡ zero
-unfolding allZero
+none_left : (zero : Bool) (l : List ℕ) (i : ℕ) → length l ≤ i → zero && all_zero (drop i l) ≡ zero
+unfolding all_zero
 none_left zero l i h = rw (drop_of_length-le l h) (and-true zero)
 
-loop-holds : tie.Need-loop-init invariant-loop decreases-loop
-loop-holds c = refl
+loop_holds : tie.Need-loop-init invariant_loop decreases_loop
+loop_holds c = refl
 
-shared-slice-read-zero : tie.Need-shared-slice-read-zero invariant-loop decreases-loop
-shared-slice-read-zero c = omega arith
+shared_slice_read_zero : tie.Need-shared-slice-read-zero invariant_loop decreases_loop
+shared_slice_read_zero c = omega arith
 
-add-i : tie.Need-overflow-add-i invariant-loop decreases-loop
-add-i c = omega arith
+add_i : tie.Need-overflow-add-i invariant_loop decreases_loop
+add_i c = omega arith
 
-loop-less : tie.Need-loop-smaller invariant-loop decreases-loop
-loop-less c = omega arith
+loop_less : tie.Need-loop-smaller invariant_loop decreases_loop
+loop_less c = omega arith
 
-loop-again : tie.Need-loop-preserved invariant-loop decreases-loop
-loop-again c =
+loop_again : tie.Need-loop-preserved invariant_loop decreases_loop
+loop_again c =
     let old = c.before.before in
-    sym (one_more old.loop.zero old.before.args.bytes.now old.loop.i c.before.loop-test.true) ∙ old.loop.invariant
+    sym (one_more old.loop.zero old.before.args.bytes.now old.loop.i c.before.loop_test.true) ∙ old.loop.invariant
 
-returns : tie.Need-returns invariant-loop decreases-loop
-returns c = sym (none_left _ _ _ c.loop-test.false) ∙ c.before.loop.invariant
+returns : tie.Need-returns invariant_loop decreases_loop
+returns c = sym (none_left _ _ _ c.loop_test.false) ∙ c.before.loop.invariant
 
-pub few-zero-from-spec : {M : Type 1} → statement M
-few-zero-from-spec =
+pub few_zero_from_spec : {M : Type 1} → statement M
+few_zero_from_spec =
     tie.close
-    (tie.spec invariant-loop decreases-loop loop-holds shared-slice-read-zero add-i loop-less loop-again returns)
+    (tie.spec invariant_loop decreases_loop loop_holds shared_slice_read_zero add_i loop_less loop_again returns)

@@ -5,16 +5,16 @@ use Rattle.zeros.proofs.Blocks.{both_ends}
 use Rattle.zeros.proofs.fours_zero_from.Statement.{statement}
 use Rattle.zeros.proofs.fours_zero_from.Tie as tie
 
-four-at-requires : tie.Need-four-at-requires
-four-at-requires c κs = search rules
+four_at_requires : tie.Need-four-at-requires
+four_at_requires c κs = search rules
 
-four-at-requires-2 : tie.Need-four-at-requires-2
-four-at-requires-2 c κs = search rules
+four_at_requires_2 : tie.Need-four-at-requires-2
+four_at_requires_2 c κs = search rules
 
 returns : tie.Need-returns
 returns c =
     let start = c.before.before.before in
-    both_ends _ _ 4 _ _ start.requires.0 (omega (arith, start.requires.1)) start.requires.2 c.before.four-at.ensures c.four-at2.ensures
+    both_ends _ _ 4 _ _ start.requires.0 (omega (arith, start.requires.1)) start.requires.2 c.before.four_at.ensures c.four_at2.ensures
 
-pub fours-zero-from-spec : {M : Type 1} → statement M
-fours-zero-from-spec = tie.close (tie.spec four-at-requires four-at-requires-2 returns)
+pub fours_zero_from_spec : {M : Type 1} → statement M
+fours_zero_from_spec = tie.close (tie.spec four_at_requires four_at_requires_2 returns)

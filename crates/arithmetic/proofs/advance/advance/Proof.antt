@@ -6,64 +6,64 @@ use native.Mathlib.Omega.{arith}
 use native.Mathlib.Nat.{mul_comm}
 use mir.Syntax.{w64}
 use mir.Val.{to_z, of_z}
-use Rattle.arithmetic.specs.Powers.{tenTo}
-use Rattle.arithmetic.specs.Advance.{advanceOf}
-use Rattle.arithmetic.proofs.Laws.{turned-at-most, advance-plain}
-use Rattle.arithmetic.proofs.Signed.{Word, word-cast, word-difference, word_sum, fits-difference, fits_sum}
+use Rattle.arithmetic.specs.Powers.{ten_to}
+use Rattle.arithmetic.specs.Advance.{advance_of}
+use Rattle.arithmetic.proofs.Laws.{turned_at_most, advance_plain}
+use Rattle.arithmetic.proofs.Signed.{Word, word_cast, word_difference, word_sum, fits_difference, fits_sum}
 use borrow.Author.Rules.{rules}
 use Rattle.arithmetic.proofs.advance.advance.Statement.{statement}
 use Rattle.arithmetic.proofs.advance.advance.Tie as tie
 
 apart : (c : tie.Start) → Word (of_z w64 (to_z w64 c.args.newer -ℤ to_z w64 c.args.older)) (pos c.args.newer -ℤ pos c.args.older) 4294967295
-apart c = word-difference c.args.newer c.args.older 4294967295 (omega arith) (omega arith) tt
+apart c = word_difference c.args.newer c.args.older 4294967295 (omega arith) (omega arith) tt
 
 turned : (c : tie.After-power) → c.power.result * c.before.before.args.flags ≤ 255000000000
 turned c =
     let a = c.before.before.args in
-    rw (c.power.ensures, mul_comm (tenTo a.n) a.flags) (turned-at-most a.n a.flags (omega arith))
+    rw (c.power.ensures, mul_comm (ten_to a.n) a.flags) (turned_at_most a.n a.flags (omega arith))
 
-cast-apart : tie.Need-overflow-cast-apart
-cast-apart c = search rules
+cast_apart : tie.Need-overflow-cast-apart
+cast_apart c = search rules
 
-cast-apart-2 : tie.Need-overflow-cast-apart-2
-cast-apart-2 c = search rules
+cast_apart_2 : tie.Need-overflow-cast-apart-2
+cast_apart_2 c = search rules
 
-sub-apart : tie.Need-overflow-sub-apart
-sub-apart c = fits-difference c.args.newer c.args.older 4294967295 (omega arith) (omega arith) tt
+sub_apart : tie.Need-overflow-sub-apart
+sub_apart c = fits_difference c.args.newer c.args.older 4294967295 (omega arith) (omega arith) tt
 
 returns : tie.Need-returns
 returns c =
     let a = c.before.args in
-    (apart c.before).reads ∙ sym (ap (λ (f : ℕ). advanceOf a.n a.newer f a.older) c.if1.true ∙ advance-plain a.n a.newer a.older)
+    (apart c.before).reads ∙ sym (ap (λ (f : ℕ). advance_of a.n a.newer f a.older) c.if1.true ∙ advance_plain a.n a.newer a.older)
 
-power-requires : tie.Need-power-requires
-power-requires c κs = search rules
+power_requires : tie.Need-power-requires
+power_requires c κs = search rules
 
-mul-turned : tie.Need-overflow-mul-turned
-mul-turned c = omega (arith, turned c)
+mul_turned : tie.Need-overflow-mul-turned
+mul_turned c = omega (arith, turned c)
 
-cast-result : tie.Need-overflow-cast-result
-cast-result c = omega (arith, turned c)
+cast_result : tie.Need-overflow-cast-result
+cast_result c = omega (arith, turned c)
 
-add-result : tie.Need-overflow-add-result
-add-result c = fits_sum (apart c.before.before) (word-cast (turned c) tt) tt
+add_result : tie.Need-overflow-add-result
+add_result c = fits_sum (apart c.before.before) (word_cast (turned c) tt) tt
 
-returns-2 : tie.Need-returns-2
-unfolding advanceOf
-returns-2 c =
+returns_2 : tie.Need-returns-2
+unfolding advance_of
+returns_2 c =
     let a = c.before.before.args in
-    (word_sum (apart c.before.before) (word-cast (turned c) tt) tt).reads ∙ rw (c.power.ensures, mul_comm (tenTo a.n) a.flags)
+    (word_sum (apart c.before.before) (word_cast (turned c) tt) tt).reads ∙ rw (c.power.ensures, mul_comm (ten_to a.n) a.flags)
 
-pub advance-spec : {M : Type 1} → statement M
-advance-spec =
+pub advance_spec : {M : Type 1} → statement M
+advance_spec =
     tie.close
     (tie.spec
-    cast-apart
-    cast-apart-2
-    sub-apart
+    cast_apart
+    cast_apart_2
+    sub_apart
     returns
-    power-requires
-    mul-turned
-    cast-result
-    add-result
-    returns-2)
+    power_requires
+    mul_turned
+    cast_result
+    add_result
+    returns_2)

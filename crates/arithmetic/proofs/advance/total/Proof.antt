@@ -6,41 +6,41 @@ use native.Mathlib.Omega.{arith}
 use native.Mathlib.Nat.{mul_comm, mul-le-mul}
 use mir.Syntax.{w64}
 use mir.Val.{to_z, of_z}
-use Rattle.arithmetic.specs.Advance.{advanceOf}
-use Rattle.arithmetic.proofs.Signed.{Word, word-cast, word-difference, word_sum, fits-difference, fits_sum}
+use Rattle.arithmetic.specs.Advance.{advance_of}
+use Rattle.arithmetic.proofs.Signed.{Word, word_cast, word_difference, word_sum, fits_difference, fits_sum}
 use borrow.Author.Rules.{rules}
 use Rattle.arithmetic.proofs.advance.total.Statement.{statement}
 use Rattle.arithmetic.proofs.advance.total.Tie as tie
 
 apart : (c : tie.Start) → Word (of_z w64 (to_z w64 c.args.newer -ℤ to_z w64 c.args.older)) (pos c.args.newer -ℤ pos c.args.older) 4294967295
-apart c = word-difference c.args.newer c.args.older 4294967295 (omega arith) (omega arith) tt
+apart c = word_difference c.args.newer c.args.older 4294967295 (omega arith) (omega arith) tt
 
 turned : (c : tie.Start) → c.args.turn * c.args.flags ≤ 281470681677825
 turned c = mul-le-mul {n₂ = 4294967295} {m₂ = 65535} (omega arith) (omega arith)
 
-cast-apart : tie.Need-overflow-cast-apart
-cast-apart c = search rules
+cast_apart : tie.Need-overflow-cast-apart
+cast_apart c = search rules
 
-cast-apart-2 : tie.Need-overflow-cast-apart-2
-cast-apart-2 c = search rules
+cast_apart_2 : tie.Need-overflow-cast-apart-2
+cast_apart_2 c = search rules
 
-sub-apart : tie.Need-overflow-sub-apart
-sub-apart c = fits-difference c.args.newer c.args.older 4294967295 (omega arith) (omega arith) tt
+sub_apart : tie.Need-overflow-sub-apart
+sub_apart c = fits_difference c.args.newer c.args.older 4294967295 (omega arith) (omega arith) tt
 
-mul-turned : tie.Need-overflow-mul-turned
-mul-turned c = omega (arith, turned c)
+mul_turned : tie.Need-overflow-mul-turned
+mul_turned c = omega (arith, turned c)
 
-cast-result : tie.Need-overflow-cast-result
-cast-result c = omega (arith, turned c)
+cast_result : tie.Need-overflow-cast-result
+cast_result c = omega (arith, turned c)
 
-add-result : tie.Need-overflow-add-result
-add-result c = fits_sum (apart c) (word-cast (turned c) tt) tt
+add_result : tie.Need-overflow-add-result
+add_result c = fits_sum (apart c) (word_cast (turned c) tt) tt
 
 returns : tie.Need-returns
-unfolding advanceOf
-returns c = λ n is. (word_sum (apart c) (word-cast (turned c) tt) tt).reads ∙ rw (mul_comm c.args.turn c.args.flags, is)
+unfolding advance_of
+returns c = λ n is. (word_sum (apart c) (word_cast (turned c) tt) tt).reads ∙ rw (mul_comm c.args.turn c.args.flags, is)
 
-pub total-spec : {M : Type 1} → statement M
-total-spec =
+pub total_spec : {M : Type 1} → statement M
+total_spec =
     tie.close
-    (tie.spec cast-apart cast-apart-2 sub-apart mul-turned cast-result add-result returns)
+    (tie.spec cast_apart cast_apart_2 sub_apart mul_turned cast_result add_result returns)

@@ -1,45 +1,45 @@
 -- Every example computes to what it says.
 use mathlib.Core.Path.{refl}
-use Rattle.calendar.specs.Year.{isLeap, yearLength}
-use Rattle.calendar.specs.Month.{hasThirty, lengthIn, monthLength}
-use Rattle.calendar.specs.Date.{isInCalendar, next, after, dateOf}
+use Rattle.calendar.specs.Year.{is_leap, year_length}
+use Rattle.calendar.specs.Month.{has_thirty, length_in, month_length}
+use Rattle.calendar.specs.Date.{is_in_calendar, next, after, date_of}
 use Rattle.calendar.proofs.claims.calendar_examples_hold.Statement.{statement}
 use Rattle.calendar.proofs.claims.calendar_examples_hold.Tie as tie
 
 returns : tie.Need-returns
-unfolding isLeap yearLength hasThirty lengthIn monthLength isInCalendar next after dateOf
+unfolding is_leap year_length has_thirty length_in month_length is_in_calendar next after date_of
 returns c =
     record {
-      common-months = refl;
-      leap-months = refl;
-      year-2000 = refl;
-      year-2001 = refl;
-      year-2002 = refl;
-      year-2003 = refl;
-      year-2004 = refl;
-      year-2096 = refl;
-      year-2100 = refl;
-      year-2104 = refl;
-      leap-days = refl;
-      common-days = refl;
-      april-0 = refl;
-      april-1 = refl;
-      april-30 = refl;
-      april-31 = refl;
-      leap-february-29 = refl;
-      leap-february-30 = refl;
-      common-february-29 = refl;
-      month-0 = refl;
-      month-12 = refl;
-      month-13 = refl;
-      day-60 = refl;
-      day-61 = refl;
-      day-182 = refl;
-      day-183 = refl;
-      day-366 = refl;
-      day-0 = refl;
-      day-65536 = refl;
+      common_months = refl;
+      leap_months = refl;
+      year_2000 = refl;
+      year_2001 = refl;
+      year_2002 = refl;
+      year_2003 = refl;
+      year_2004 = refl;
+      year_2096 = refl;
+      year_2100 = refl;
+      year_2104 = refl;
+      leap_days = refl;
+      common_days = refl;
+      april_0 = refl;
+      april_1 = refl;
+      april_30 = refl;
+      april_31 = refl;
+      leap_february_29 = refl;
+      leap_february_30 = refl;
+      common_february_29 = refl;
+      month_0 = refl;
+      month_12 = refl;
+      month_13 = refl;
+      day_60 = refl;
+      day_61 = refl;
+      day_182 = refl;
+      day_183 = refl;
+      day_366 = refl;
+      day_0 = refl;
+      day_65536 = refl;
     }
 
-pub calendar-examples-hold-spec : {M : Type 1} → statement M
-calendar-examples-hold-spec = tie.close (tie.spec returns)
+pub calendar_examples_hold_spec : {M : Type 1} → statement M
+calendar_examples_hold_spec = tie.close (tie.spec returns)

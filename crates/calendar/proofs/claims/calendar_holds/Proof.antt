@@ -6,5 +6,5 @@ use Rattle.calendar.proofs.claims.calendar_holds.Tie as tie
 returns : tie.Need-returns
 returns c = calendar
 
-pub calendar-holds-spec : {M : Type 1} → statement M
-calendar-holds-spec = tie.close (tie.spec returns)
+pub calendar_holds_spec : {M : Type 1} → statement M
+calendar_holds_spec = tie.close (tie.spec returns)

@@ -3,49 +3,49 @@ use mathlib.Core.Path.{◌≡◌, sym}
 use Prim.Native.Nat.{ℕ, ◌+◌, ◌-◌, ◌<◌}
 use native.Mathlib.Omega.{arith}
 use borrow.Author.Rules.{rules}
-use Rattle.calendar.specs.Year.{isLeap, yearStart}
-use Rattle.calendar.specs.Date.{dateOf}
-use Rattle.calendar.specs.Inner.Placed.{daysBefore, MonthAt}
-use Rattle.calendar.proofs.Dates.{of-year-below, of-month-below, date-at}
+use Rattle.calendar.specs.Year.{is_leap, year_start}
+use Rattle.calendar.specs.Date.{date_of}
+use Rattle.calendar.specs.Inner.Placed.{days_before, MonthAt}
+use Rattle.calendar.proofs.Dates.{of_year_below, of_month_below, date_at}
 use Rattle.calendar.proofs.conversion.date_of.Statement.{statement}
 use Rattle.calendar.proofs.conversion.date_of.Tie as tie
 
 returns : tie.Need-returns
-unfolding dateOf
+unfolding date_of
 returns c = rw c.if1.true
 
-year-at-requires : tie.Need-year-at-requires
-year-at-requires c κs = search rules
+year_at_requires : tie.Need-year-at-requires
+year_at_requires c κs = search rules
 
-add-year : tie.Need-overflow-add-year
-add-year c = search rules
+add_year : tie.Need-overflow-add-year
+add_year c = search rules
 
-is-leap-requires : tie.Need-is-leap-requires
-is-leap-requires c κs = search rules
+is_leap_requires : tie.Need-is-leap-requires
+is_leap_requires c κs = search rules
 
-year-start-requires : tie.Need-year-start-requires
-year-start-requires c κs = search rules
+year_start_requires : tie.Need-year-start-requires
+year_start_requires c κs = search rules
 
-sub-day-of-year : tie.Need-overflow-sub-day-of-year
-sub-day-of-year c = search rules
+sub_day_of_year : tie.Need-overflow-sub-day-of-year
+sub_day_of_year c = search rules
 
-month-at-requires : tie.Need-month-at-requires
-month-at-requires c κs =
+month_at_requires : tie.Need-month-at-requires
+month_at_requires c κs =
     let y = c.before.before in
-    rw (c.year-start.ensures, c.before.is-leap.ensures)
-    (of-year-below y.before.before.args.day y.year-at.result y.year-at.ensures (omega arith))
+    rw (c.year_start.ensures, c.before.is_leap.ensures)
+    (of_year_below y.before.before.args.day y.year_at.result y.year_at.ensures (omega arith))
 
-add-month : tie.Need-overflow-add-month
-add-month c = search rules
+add_month : tie.Need-overflow-add-month
+add_month c = search rules
 
-cast-month : tie.Need-overflow-cast-month
-cast-month c = search rules
+cast_month : tie.Need-overflow-cast-month
+cast_month c = search rules
 
-days-before-requires : tie.Need-days-before-requires
-days-before-requires c κs = search rules
+days_before_requires : tie.Need-days-before-requires
+days_before_requires c κs = search rules
 
-sub-day-of-month : tie.Need-overflow-sub-day-of-month
-sub-day-of-month c = search rules
+sub_day_of_month : tie.Need-overflow-sub-day-of-month
+sub_day_of_month c = search rules
 
 -- what was found of the day, and the month by the year's start and its leap day
 module _ (c : tie.After-days-before) where
@@ -56,44 +56,44 @@ module _ (c : tie.After-days-before) where
   day = found.before.before.args.day
 
   abbrev since : ℕ
-  since = found.year-at.result
+  since = found.year_at.result
 
-  month : MonthAt (isLeap (2000 + since)) (day - yearStart since) c.before.month-at.result
-  month = rw (c.before.before.year-start.ensures, c.before.before.before.is-leap.ensures) at c.before.month-at.ensures
+  month : MonthAt (is_leap (2000 + since)) (day - year_start since) c.before.month_at.result
+  month = rw (c.before.before.year_start.ensures, c.before.before.before.is_leap.ensures) at c.before.month_at.ensures
 
-  of-month : c.days-before.result ≡ daysBefore (isLeap (2000 + since)) c.before.month-at.result
-  of-month = rw c.before.before.before.is-leap.ensures at c.days-before.ensures
+  of_month : c.days_before.result ≡ days_before (is_leap (2000 + since)) c.before.month_at.result
+  of_month = rw c.before.before.before.is_leap.ensures at c.days_before.ensures
 
-  below : day - c.before.before.year-start.result - c.days-before.result < 31
+  below : day - c.before.before.year_start.result - c.days_before.result < 31
   below =
-      omega (arith, c.before.before.year-start.ensures, of-month, of-month-below day since found.year-at.ensures (omega arith) c.before.month-at.result month)
+      omega (arith, c.before.before.year_start.ensures, of_month, of_month_below day since found.year_at.ensures (omega arith) c.before.month_at.result month)
 
-add-day-of-month : tie.Need-overflow-add-day-of-month
-add-day-of-month c = omega (arith, below c)
+add_day_of_month : tie.Need-overflow-add-day-of-month
+add_day_of_month c = omega (arith, below c)
 
-cast-day-of-month : tie.Need-overflow-cast-day-of-month
-cast-day-of-month c = omega (arith, below c)
+cast_day_of_month : tie.Need-overflow-cast-day-of-month
+cast_day_of_month c = omega (arith, below c)
 
-returns-2 : tie.Need-returns-2
-returns-2 c =
-    rw (c.before.before.year-start.ensures, of-month c)
-    (sym (date-at (day c) (since c) (found c).year-at.ensures (omega arith) c.before.month-at.result (month c)))
+returns_2 : tie.Need-returns-2
+returns_2 c =
+    rw (c.before.before.year_start.ensures, of_month c)
+    (sym (date_at (day c) (since c) (found c).year_at.ensures (omega arith) c.before.month_at.result (month c)))
 
-pub date-of-spec : {M : Type 1} → statement M
-date-of-spec =
+pub date_of_spec : {M : Type 1} → statement M
+date_of_spec =
     tie.close
     (tie.spec
     returns
-    year-at-requires
-    add-year
-    is-leap-requires
-    year-start-requires
-    sub-day-of-year
-    month-at-requires
-    add-month
-    cast-month
-    days-before-requires
-    sub-day-of-month
-    add-day-of-month
-    cast-day-of-month
-    returns-2)
+    year_at_requires
+    add_year
+    is_leap_requires
+    year_start_requires
+    sub_day_of_year
+    month_at_requires
+    add_month
+    cast_month
+    days_before_requires
+    sub_day_of_month
+    add_day_of_month
+    cast_day_of_month
+    returns_2)

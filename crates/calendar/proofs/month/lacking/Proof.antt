@@ -1,15 +1,15 @@
 -- The code is the definition.
-use Rattle.calendar.specs.Inner.Placed.{lackingIn}
+use Rattle.calendar.specs.Inner.Placed.{lacking_in}
 use Rattle.calendar.proofs.month.lacking.Statement.{statement}
 use Rattle.calendar.proofs.month.lacking.Tie as tie
 
 returns : tie.Need-returns
-unfolding lackingIn
+unfolding lacking_in
 returns c = rw c.if1.true
 
-returns-2 : tie.Need-returns-2
-unfolding lackingIn
-returns-2 c = rw c.if1.false
+returns_2 : tie.Need-returns-2
+unfolding lacking_in
+returns_2 c = rw c.if1.false
 
-pub lacking-spec : {M : Type 1} → statement M
-lacking-spec = tie.close (tie.spec returns returns-2)
+pub lacking_spec : {M : Type 1} → statement M
+lacking_spec = tie.close (tie.spec returns returns_2)

@@ -2,23 +2,23 @@
 use mathlib.Core.Path.{sym}
 use native.Mathlib.Omega.{arith}
 use borrow.Author.Rules.{rules}
-use Rattle.calendar.specs.Date.{dateOf}
-use Rattle.calendar.proofs.Dates.{year-at-date}
+use Rattle.calendar.specs.Date.{date_of}
+use Rattle.calendar.proofs.Dates.{year_at_date}
 use Rattle.calendar.proofs.year.year_of.Statement.{statement}
 use Rattle.calendar.proofs.year.year_of.Tie as tie
 
 returns : tie.Need-returns
-unfolding dateOf
+unfolding date_of
 returns c = rw c.if1.true
 
-year-at-requires : tie.Need-year-at-requires
-year-at-requires c κs = search rules
+year_at_requires : tie.Need-year-at-requires
+year_at_requires c κs = search rules
 
-add-result : tie.Need-overflow-add-result
-add-result c = search rules
+add_result : tie.Need-overflow-add-result
+add_result c = search rules
 
-returns-2 : tie.Need-returns-2
-returns-2 c = sym (year-at-date c.before.before.args.day c.year-at.result c.year-at.ensures (omega arith))
+returns_2 : tie.Need-returns-2
+returns_2 c = sym (year_at_date c.before.before.args.day c.year_at.result c.year_at.ensures (omega arith))
 
-pub year-of-spec : {M : Type 1} → statement M
-year-of-spec = tie.close (tie.spec returns year-at-requires add-result returns-2)
+pub year_of_spec : {M : Type 1} → statement M
+year_of_spec = tie.close (tie.spec returns year_at_requires add_result returns_2)

@@ -1,111 +1,111 @@
 -- Every example computes to what it says.
 use mathlib.Core.Path.{refl}
-use Rattle.arithmetic.specs.Powers.{tenTo}
-use Rattle.arithmetic.specs.Advance.{advanceOf}
-use Rattle.terms.specs.Entry.{isStanding, isWithdrawn, is_held, those, slot_at, recentOf}
-use Rattle.terms.specs.Letter.{isKnown, isOpening, isFinal, isUnchecked}
+use Rattle.arithmetic.specs.Powers.{ten_to}
+use Rattle.arithmetic.specs.Advance.{advance_of}
+use Rattle.terms.specs.Entry.{is_standing, is_withdrawn, is_held, those, slot_at, recent_of}
+use Rattle.terms.specs.Letter.{is_known, is_opening, is_final, is_unchecked}
 use Rattle.terms.specs.Profile.{takes}
-use Rattle.rules.specs.Settings.{stepBack}
-use Rattle.rules.specs.Detection.{is_plain, scaledOf, isSmallStep, isNotRollover, isNearTurn, isLikeRate, isSmallPart, isSmallTurn, isSmallAdvance, isRollover, detected}
-use Rattle.rules.specs.Indicator.{indicated, indicatedNumber, indicatedFlag}
-use Rattle.rules.specs.Volume.{advanceOver, hasVolumeCheck, hasThreshold, comparedWith, compared, comparedNumber, isLowVolume, isHighVolume, isOverCapacity}
-use Rattle.register.specs.Head.{no_carry, mostEntries}
-use Rattle.journal.specs.Journal.{held_of, isThere, onDay}
-use Rattle.journal.specs.Sound.{any, exists, hasRead}
-use Rattle.calls.specs.Checks.{isMissing, isBadContent, isOtherType, isBadDate, isWithdrawnRead, isRepeat, isATOnDay, isOtherIndicator, isBackDated, isUnopened, isATLater, isOpeningIndicated, isHeldEqual, isUnheldReread, isFull, isDenied, isUnclear, indicatedIn, contentRules, sameDayRules, orderRules, indicatorRules, volumeRules, submitRules}
+use Rattle.rules.specs.Settings.{step_back}
+use Rattle.rules.specs.Detection.{is_plain, scaled_of, is_small_step, is_not_rollover, is_near_turn, is_like_rate, is_small_part, is_small_turn, is_small_advance, is_rollover, detected}
+use Rattle.rules.specs.Indicator.{indicated, indicated_number, indicated_flag}
+use Rattle.rules.specs.Volume.{advance_over, has_volume_check, has_threshold, compared_with, compared, compared_number, is_low_volume, is_high_volume, is_over_capacity}
+use Rattle.register.specs.Head.{no_carry, most_entries}
+use Rattle.journal.specs.Journal.{held_of, is_there, on_day}
+use Rattle.journal.specs.Sound.{any, exists, has_read}
+use Rattle.calls.specs.Checks.{is_missing, is_bad_content, is_other_type, is_bad_date, is_withdrawn_read, is_repeat, is_at_on_day, is_other_indicator, is_back_dated, is_unopened, is_at_later, is_opening_indicated, is_held_equal, is_unheld_reread, is_full, is_denied, is_unclear, indicated_in, content_rules, same_day_rules, order_rules, indicator_rules, volume_rules, submit_rules}
 use Rattle.calls.proofs.claims.check_examples_hold.Statement.{statement}
 use Rattle.calls.proofs.claims.check_examples_hold.Tie as tie
 
 returns : tie.Need-returns
-unfolding tenTo advanceOf isStanding isWithdrawn is_held those slot_at recentOf isKnown isOpening isFinal isUnchecked takes stepBack is_plain scaledOf isSmallStep isNotRollover isNearTurn isLikeRate isSmallPart isSmallTurn isSmallAdvance isRollover detected indicated indicatedNumber indicatedFlag advanceOver hasVolumeCheck hasThreshold comparedWith compared comparedNumber isLowVolume isHighVolume isOverCapacity no_carry mostEntries held_of isThere onDay any exists hasRead isMissing isBadContent isOtherType isBadDate isWithdrawnRead isRepeat isATOnDay isOtherIndicator isBackDated isUnopened isATLater isOpeningIndicated isHeldEqual isUnheldReread isFull isDenied isUnclear indicatedIn contentRules sameDayRules orderRules indicatorRules volumeRules submitRules
+unfolding ten_to advance_of is_standing is_withdrawn is_held those slot_at recent_of is_known is_opening is_final is_unchecked takes step_back is_plain scaled_of is_small_step is_not_rollover is_near_turn is_like_rate is_small_part is_small_turn is_small_advance is_rollover detected indicated indicated_number indicated_flag advance_over has_volume_check has_threshold compared_with compared compared_number is_low_volume is_high_volume is_over_capacity no_carry most_entries held_of is_there on_day any exists has_read is_missing is_bad_content is_other_type is_bad_date is_withdrawn_read is_repeat is_at_on_day is_other_indicator is_back_dated is_unopened is_at_later is_opening_indicated is_held_equal is_unheld_reread is_full is_denied is_unclear indicated_in content_rules same_day_rules order_rules indicator_rules volume_rules submit_rules
 returns c =
     record {
       taken = refl;
-      mark-missing = refl;
-      below-the-mark = refl;
-      type-unknown = refl;
-      indicator-three = refl;
-      indicator-two = refl;
-      reread-two = refl;
-      reread-one = refl;
-      past-the-dials = refl;
-      on-the-dials = refl;
-      day-zero = refl;
-      day-one = refl;
-      day-to-come = refl;
-      sent-on-its-day = refl;
-      withdrawn-again = refl;
-      withdrawn-otherwise = refl;
-      withdrawn-day-alone = refl;
-      withdrawn-value-alone = refl;
-      held-not-withdrawn = refl;
-      same-again = refl;
-      older-again = refl;
-      again-as-reread = refl;
-      repeat-other-type = refl;
-      repeat-other-value = refl;
-      repeat-other-indicator = refl;
-      repeat-other-day = refl;
-      initial-on-day = refl;
-      final-on-day = refl;
-      opening-on-day = refl;
-      final-on-another = refl;
-      other-indicator = refl;
-      older-other-indicator = refl;
-      other-indicator-and-day = refl;
-      older-different = refl;
-      withdrawn-day-not = refl;
-      held-day-not = refl;
+      mark_missing = refl;
+      below_the_mark = refl;
+      type_unknown = refl;
+      indicator_three = refl;
+      indicator_two = refl;
+      reread_two = refl;
+      reread_one = refl;
+      past_the_dials = refl;
+      on_the_dials = refl;
+      day_zero = refl;
+      day_one = refl;
+      day_to_come = refl;
+      sent_on_its_day = refl;
+      withdrawn_again = refl;
+      withdrawn_otherwise = refl;
+      withdrawn_day_alone = refl;
+      withdrawn_value_alone = refl;
+      held_not_withdrawn = refl;
+      same_again = refl;
+      older_again = refl;
+      again_as_reread = refl;
+      repeat_other_type = refl;
+      repeat_other_value = refl;
+      repeat_other_indicator = refl;
+      repeat_other_day = refl;
+      initial_on_day = refl;
+      final_on_day = refl;
+      opening_on_day = refl;
+      final_on_another = refl;
+      other_indicator = refl;
+      older_other_indicator = refl;
+      other_indicator_and_day = refl;
+      older_different = refl;
+      withdrawn_day_not = refl;
+      held_day_not = refl;
       earlier = refl;
-      before-all = refl;
+      before_all = refl;
       later = refl;
-      on-the-last-day = refl;
-      before-withdrawn = refl;
-      cyclic-first = refl;
-      final-first = refl;
-      cyclic-after-withdrawn = refl;
-      initial-opens = refl;
-      opening-opens = refl;
-      cyclic-second = refl;
-      initial-second = refl;
-      opening-second = refl;
-      initial-after-withdrawn = refl;
-      opening-after-withdrawn = refl;
-      second-final = refl;
-      first-final = refl;
-      final-after-withdrawn = refl;
-      other-after-final = refl;
-      initial-false = refl;
-      initial-true = refl;
-      opening-false = refl;
-      opening-true = refl;
-      other-false = refl;
-      original-held = refl;
-      none-held = refl;
-      held-other-day = refl;
-      held-other-value = refl;
-      held-other-type = refl;
-      held-other-indicator = refl;
-      no-reread = refl;
+      on_the_last_day = refl;
+      before_withdrawn = refl;
+      cyclic_first = refl;
+      final_first = refl;
+      cyclic_after_withdrawn = refl;
+      initial_opens = refl;
+      opening_opens = refl;
+      cyclic_second = refl;
+      initial_second = refl;
+      opening_second = refl;
+      initial_after_withdrawn = refl;
+      opening_after_withdrawn = refl;
+      second_final = refl;
+      first_final = refl;
+      final_after_withdrawn = refl;
+      other_after_final = refl;
+      initial_false = refl;
+      initial_true = refl;
+      opening_false = refl;
+      opening_true = refl;
+      other_false = refl;
+      original_held = refl;
+      none_held = refl;
+      held_other_day = refl;
+      held_other_value = refl;
+      held_other_type = refl;
+      held_other_indicator = refl;
+      no_reread = refl;
       fifty = refl;
-      forty-nine = refl;
-      forty-nine-and-held = refl;
-      forty-nine-carried = refl;
-      forty-eight-carried = refl;
-      forty-eight-and-held = refl;
-      rollover-false = refl;
-      rollover-true = refl;
-      rollover-not-set = refl;
-      plain-true = refl;
-      plain-false = refl;
-      unclear-not-set = refl;
-      unclear-false = refl;
-      unclear-true = refl;
-      flag-of-rollover = refl;
-      flag-of-plain = refl;
-      flag-of-false = refl;
-      flag-of-true = refl;
+      forty_nine = refl;
+      forty_nine_and_held = refl;
+      forty_nine_carried = refl;
+      forty_eight_carried = refl;
+      forty_eight_and_held = refl;
+      rollover_false = refl;
+      rollover_true = refl;
+      rollover_not_set = refl;
+      plain_true = refl;
+      plain_false = refl;
+      unclear_not_set = refl;
+      unclear_false = refl;
+      unclear_true = refl;
+      flag_of_rollover = refl;
+      flag_of_plain = refl;
+      flag_of_false = refl;
+      flag_of_true = refl;
     }
 
-pub check-examples-hold-spec : {M : Type 1} → statement M
-check-examples-hold-spec = tie.close (tie.spec returns)
+pub check_examples_hold_spec : {M : Type 1} → statement M
+check_examples_hold_spec = tie.close (tie.spec returns)

@@ -1,69 +1,69 @@
 -- Every example computes to what it says.
 use mathlib.Core.Path.{refl}
-use Rattle.arithmetic.specs.Powers.{tenTo}
-use Rattle.arithmetic.specs.Advance.{advanceOf}
-use Rattle.terms.specs.Entry.{isStanding, isWithdrawn, is_held, those, slot_at, recentOf}
-use Rattle.terms.specs.Letter.{isKnown, isOpening, isFinal, isUnchecked}
+use Rattle.arithmetic.specs.Powers.{ten_to}
+use Rattle.arithmetic.specs.Advance.{advance_of}
+use Rattle.terms.specs.Entry.{is_standing, is_withdrawn, is_held, those, slot_at, recent_of}
+use Rattle.terms.specs.Letter.{is_known, is_opening, is_final, is_unchecked}
 use Rattle.terms.specs.Profile.{takes}
-use Rattle.rules.specs.Settings.{stepBack}
-use Rattle.rules.specs.Detection.{is_plain, scaledOf, isSmallStep, isNotRollover, isNearTurn, isLikeRate, isSmallPart, isSmallTurn, isSmallAdvance, isRollover, detected}
-use Rattle.rules.specs.Indicator.{indicated, indicatedNumber, indicatedFlag}
-use Rattle.rules.specs.Volume.{advanceOver, hasVolumeCheck, hasThreshold, comparedWith, compared, comparedNumber, isLowVolume, isHighVolume, isOverCapacity}
-use Rattle.register.specs.Head.{no_carry, mostEntries}
-use Rattle.journal.specs.Journal.{held_of, isThere, onDay}
-use Rattle.journal.specs.Sound.{any, exists, hasRead}
-use Rattle.calls.specs.Checks.{isMissing, isBadContent, isOtherType, isBadDate, isWithdrawnRead, isRepeat, isATOnDay, isOtherIndicator, isBackDated, isUnopened, isATLater, isOpeningIndicated, isHeldEqual, isUnheldReread, isFull, isDenied, isUnclear, indicatedIn, contentRules, sameDayRules, orderRules, indicatorRules, volumeRules, submitRules}
+use Rattle.rules.specs.Settings.{step_back}
+use Rattle.rules.specs.Detection.{is_plain, scaled_of, is_small_step, is_not_rollover, is_near_turn, is_like_rate, is_small_part, is_small_turn, is_small_advance, is_rollover, detected}
+use Rattle.rules.specs.Indicator.{indicated, indicated_number, indicated_flag}
+use Rattle.rules.specs.Volume.{advance_over, has_volume_check, has_threshold, compared_with, compared, compared_number, is_low_volume, is_high_volume, is_over_capacity}
+use Rattle.register.specs.Head.{no_carry, most_entries}
+use Rattle.journal.specs.Journal.{held_of, is_there, on_day}
+use Rattle.journal.specs.Sound.{any, exists, has_read}
+use Rattle.calls.specs.Checks.{is_missing, is_bad_content, is_other_type, is_bad_date, is_withdrawn_read, is_repeat, is_at_on_day, is_other_indicator, is_back_dated, is_unopened, is_at_later, is_opening_indicated, is_held_equal, is_unheld_reread, is_full, is_denied, is_unclear, indicated_in, content_rules, same_day_rules, order_rules, indicator_rules, volume_rules, submit_rules}
 use Rattle.calls.proofs.claims.order_examples_hold.Statement.{statement}
 use Rattle.calls.proofs.claims.order_examples_hold.Tie as tie
 
 returns : tie.Need-returns
-unfolding tenTo advanceOf isStanding isWithdrawn is_held those slot_at recentOf isKnown isOpening isFinal isUnchecked takes stepBack is_plain scaledOf isSmallStep isNotRollover isNearTurn isLikeRate isSmallPart isSmallTurn isSmallAdvance isRollover detected indicated indicatedNumber indicatedFlag advanceOver hasVolumeCheck hasThreshold comparedWith compared comparedNumber isLowVolume isHighVolume isOverCapacity no_carry mostEntries held_of isThere onDay any exists hasRead isMissing isBadContent isOtherType isBadDate isWithdrawnRead isRepeat isATOnDay isOtherIndicator isBackDated isUnopened isATLater isOpeningIndicated isHeldEqual isUnheldReread isFull isDenied isUnclear indicatedIn contentRules sameDayRules orderRules indicatorRules volumeRules submitRules
+unfolding ten_to advance_of is_standing is_withdrawn is_held those slot_at recent_of is_known is_opening is_final is_unchecked takes step_back is_plain scaled_of is_small_step is_not_rollover is_near_turn is_like_rate is_small_part is_small_turn is_small_advance is_rollover detected indicated indicated_number indicated_flag advance_over has_volume_check has_threshold compared_with compared compared_number is_low_volume is_high_volume is_over_capacity no_carry most_entries held_of is_there on_day any exists has_read is_missing is_bad_content is_other_type is_bad_date is_withdrawn_read is_repeat is_at_on_day is_other_indicator is_back_dated is_unopened is_at_later is_opening_indicated is_held_equal is_unheld_reread is_full is_denied is_unclear indicated_in content_rules same_day_rules order_rules indicator_rules volume_rules submit_rules
 returns c =
     record {
-      missing-before-content = refl;
-      content-before-date = refl;
-      date-before-withdrawn = refl;
-      date-before-repeat = refl;
-      withdrawn-before-AT = refl;
-      withdrawn-before-EH = refl;
-      withdrawn-before-BF = refl;
-      withdrawn-before-back-dated = refl;
-      withdrawn-before-DF = refl;
-      withdrawn-before-no-original = refl;
-      repeat-before-AT = refl;
-      repeat-before-AT-initial = refl;
-      AT-before-EH = refl;
-      AT-before-BF = refl;
-      EH-before-BF = refl;
-      repeat-before-back-dated = refl;
-      AT-before-back-dated = refl;
-      EH-before-back-dated = refl;
-      BF-before-back-dated = refl;
-      BF-before-no-original = refl;
-      BF-before-full = refl;
-      EH-before-EE = refl;
-      back-dated-before-AT = refl;
-      back-dated-before-AT-initial = refl;
-      back-dated-before-no-original = refl;
-      back-dated-before-full = refl;
-      DF-before-no-original = refl;
-      DF-before-full = refl;
-      AT-before-indicator = refl;
-      AT-before-no-original = refl;
-      AT-before-full = refl;
-      indicator-before-no-original = refl;
-      indicator-before-full = refl;
-      indicator-before-EE = refl;
-      no-original-before-full = refl;
-      no-original-before-EE = refl;
-      full-before-EE = refl;
-      full-before-EF = refl;
-      EE-before-low = refl;
-      EE-before-high = refl;
-      EF-before-low = refl;
-      high-before-capacity = refl;
-      low-before-capacity = refl;
+      missing_before_content = refl;
+      content_before_date = refl;
+      date_before_withdrawn = refl;
+      date_before_repeat = refl;
+      withdrawn_before_at = refl;
+      withdrawn_before_eh = refl;
+      withdrawn_before_bf = refl;
+      withdrawn_before_back_dated = refl;
+      withdrawn_before_df = refl;
+      withdrawn_before_no_original = refl;
+      repeat_before_at = refl;
+      repeat_before_at_initial = refl;
+      at_before_eh = refl;
+      at_before_bf = refl;
+      eh_before_bf = refl;
+      repeat_before_back_dated = refl;
+      at_before_back_dated = refl;
+      eh_before_back_dated = refl;
+      bf_before_back_dated = refl;
+      bf_before_no_original = refl;
+      bf_before_full = refl;
+      eh_before_ee = refl;
+      back_dated_before_at = refl;
+      back_dated_before_at_initial = refl;
+      back_dated_before_no_original = refl;
+      back_dated_before_full = refl;
+      df_before_no_original = refl;
+      df_before_full = refl;
+      at_before_indicator = refl;
+      at_before_no_original = refl;
+      at_before_full = refl;
+      indicator_before_no_original = refl;
+      indicator_before_full = refl;
+      indicator_before_ee = refl;
+      no_original_before_full = refl;
+      no_original_before_ee = refl;
+      full_before_ee = refl;
+      full_before_ef = refl;
+      ee_before_low = refl;
+      ee_before_high = refl;
+      ef_before_low = refl;
+      high_before_capacity = refl;
+      low_before_capacity = refl;
     }
 
-pub order-examples-hold-spec : {M : Type 1} → statement M
-order-examples-hold-spec = tie.close (tie.spec returns)
+pub order_examples_hold_spec : {M : Type 1} → statement M
+order_examples_hold_spec = tie.close (tie.spec returns)

@@ -1,40 +1,40 @@
 -- Every example computes to what it says.
 use mathlib.Core.Path.{refl}
-use Rattle.register.specs.Area.{allZero}
-use Rattle.journal.specs.Numbers.{areaRules}
-use Rattle.calls.specs.Checks.{submitChecks}
-use Rattle.calls.specs.Calls.{submitIn, trialIn, place_of, refusalOf}
-use Rattle.calls.specs.Play.{number_of, isTrial, names, mayChange, isPicked, picked, calls_of}
-use Rattle.calls.specs.Ledger.{emptyLedger, flagOf, entered, isAccepted, ledgerAfter, ledgerOf}
-use Rattle.calls.specs.Trials.{lessTrials, lessTried}
+use Rattle.register.specs.Area.{all_zero}
+use Rattle.journal.specs.Numbers.{area_rules}
+use Rattle.calls.specs.Checks.{submit_checks}
+use Rattle.calls.specs.Calls.{submit_in, trial_in, place_of, refusal_of}
+use Rattle.calls.specs.Play.{number_of, is_trial, names, may_change, is_picked, picked, calls_of}
+use Rattle.calls.specs.Ledger.{empty_ledger, flag_of, entered, is_accepted, ledger_after, ledger_of}
+use Rattle.calls.specs.Trials.{less_trials, less_tried}
 use Rattle.calls.specs.TrialExamples.{untried, mixed}
 use Rattle.calls.proofs.claims.trial_examples_hold.Statement.{statement}
 use Rattle.calls.proofs.claims.trial_examples_hold.Tie as tie
 
 returns : tie.Need-returns
-unfolding allZero areaRules submitChecks submitIn trialIn place_of refusalOf number_of isTrial names mayChange isPicked picked calls_of emptyLedger flagOf entered isAccepted ledgerAfter ledgerOf lessTrials lessTried untried mixed
+unfolding all_zero area_rules submit_checks submit_in trial_in place_of refusal_of number_of is_trial names may_change is_picked picked calls_of empty_ledger flag_of entered is_accepted ledger_after ledger_of less_trials less_tried untried mixed
 returns c =
     record {
-      trial-is = refl;
-      enrolment-not = refl;
-      submission-not = refl;
-      withdrawal-not = refl;
-      report-not = refl;
-      fold-not = refl;
-      trial-placed = refl;
-      trial-unnamed = refl;
-      submission-named = refl;
-      accepted-not-picked = refl;
-      low-not-picked = refl;
-      high-not-picked = refl;
-      picked-without = refl;
-      answered-not-accepted = refl;
-      ledger-without = refl;
-      less-trials = refl;
-      less-tried = refl;
-      tried-at-none = refl;
-      refusal-form = refl;
+      trial_is = refl;
+      enrolment_not = refl;
+      submission_not = refl;
+      withdrawal_not = refl;
+      report_not = refl;
+      fold_not = refl;
+      trial_placed = refl;
+      trial_unnamed = refl;
+      submission_named = refl;
+      accepted_not_picked = refl;
+      low_not_picked = refl;
+      high_not_picked = refl;
+      picked_without = refl;
+      answered_not_accepted = refl;
+      ledger_without = refl;
+      less_trials_row = refl;
+      less_tried_row = refl;
+      tried_at_none = refl;
+      refusal_form = refl;
     }
 
-pub trial-examples-hold-spec : {M : Type 1} → statement M
-trial-examples-hold-spec = tie.close (tie.spec returns)
+pub trial_examples_hold_spec : {M : Type 1} → statement M
+trial_examples_hold_spec = tie.close (tie.spec returns)

@@ -6,5 +6,5 @@ use Rattle.calls.proofs.claims.trials_foretell.Tie as tie
 returns : tie.Need-returns
 returns c = foretells
 
-pub trials-foretell-spec : {M : Type 1} → statement M
-trials-foretell-spec = tie.close (tie.spec returns)
+pub trials_foretell_spec : {M : Type 1} → statement M
+trials_foretell_spec = tie.close (tie.spec returns)

@@ -4,17 +4,17 @@ use mathlib.Core.Bool.{◌||◌}
 use lib.Dec.{ltb}
 use Rattle.journal.specs.Journal.{Journal, standing}
 use Rattle.judge.specs.declared.area.Summary.{Summary}
-use Rattle.judge.specs.Inner.Judged.{countsOf, summaryOf}
-use Rattle.calls.specs.Checks.{leastToFold, isNoFold}
+use Rattle.judge.specs.Inner.Judged.{counts_of, summary_of}
+use Rattle.calls.specs.Checks.{least_to_fold, is_no_fold}
 use Rattle.fold.proofs.decide.is_no_fold.Statement.{statement}
 use Rattle.fold.proofs.decide.is_no_fold.Tie as tie
 
-by-summary : (j : Journal) (t : Summary) → t ≡ summaryOf j → ltb t.counts.standing leastToFold || t.ended ≡ isNoFold (standing j.entries)
-unfolding summaryOf countsOf isNoFold
-by-summary j t e = rw e
+by_summary : (j : Journal) (t : Summary) → t ≡ summary_of j → ltb t.counts.standing least_to_fold || t.ended ≡ is_no_fold (standing j.entries)
+unfolding summary_of counts_of is_no_fold
+by_summary j t e = rw e
 
 returns : tie.Need-returns
-returns c = λ j e. by-summary j _ e
+returns c = λ j e. by_summary j _ e
 
-pub is-no-fold-spec : {M : Type 1} → statement M
-is-no-fold-spec = tie.close (tie.spec returns)
+pub is_no_fold_spec : {M : Type 1} → statement M
+is_no_fold_spec = tie.close (tie.spec returns)

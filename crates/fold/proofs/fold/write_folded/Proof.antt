@@ -16,17 +16,17 @@ whole_copy to {from} laid is same =
     ∙ append-nil from
     ∙ laid
 
-slice-aggregate-lay : tie.Need-slice-aggregate-lay
-slice-aggregate-lay c = search rules
+slice_aggregate_lay : tie.Need-slice-aggregate-lay
+slice_aggregate_lay c = search rules
 
-lay-requires : tie.Need-lay-requires
-lay-requires c κs = search rules
+lay_requires : tie.Need-lay-requires
+lay_requires c κs = search rules
 
-slice-aggregate-copy : tie.Need-slice-aggregate-copy
-slice-aggregate-copy c = search rules
+slice_aggregate_copy : tie.Need-slice-aggregate-copy
+slice_aggregate_copy c = search rules
 
-copy-requires : tie.Need-copy-requires
-copy-requires c κs = search rules
+copy_requires : tie.Need-copy-requires
+copy_requires c κs = search rules
 
 same_length : tie.Need-same-length
 same_length c = search rules
@@ -38,13 +38,13 @@ returns c =
     let s = lay.before.before.before.before in
     whole_copy s.args.area.now lay.lay.ensures copy.copy.ensures.1 (lay.lay.auto.1.1.0 ∙ sym s.requires.0.long)
 
-pub write-folded-spec : {M : Type 1} → statement M
-write-folded-spec =
+pub write_folded_spec : {M : Type 1} → statement M
+write_folded_spec =
     tie.close
     (tie.spec
-    slice-aggregate-lay
-    lay-requires
-    slice-aggregate-copy
-    copy-requires
+    slice_aggregate_lay
+    lay_requires
+    slice_aggregate_copy
+    copy_requires
     same_length
     returns)

@@ -5,62 +5,62 @@ use native.Mathlib.Omega.{arith}
 use borrow.Author.Rules.{rules}
 use lib.ListN.{length}
 use Rattle.terms.specs.Entry.{those}
-use Rattle.journal.specs.Journal.{entriesTo, putEntries}
+use Rattle.journal.specs.Journal.{entries_to, put_entries}
 use Rattle.journal.proofs.Entries.{one_more}
 use Rattle.calls.specs.Fold.{stays}
 use Rattle.fold.proofs.left.put_left.Statement.{statement}
 use Rattle.fold.proofs.left.put_left.Tie as tie
 
-abbrev invariant-loop : tie.invariant-loop
-invariant-loop left₀ head body m oldest count₀ k₀ left count k = (k ≤ m) × (count ≤ k) × (length left ≡ length left₀) × (count ≡ length (those (stays oldest) (entriesTo k body))) × (left ≡ putEntries left₀ head (those (stays oldest) (entriesTo k body)))
+abbrev invariant_loop : tie.invariant_loop
+invariant_loop left₀ head body m oldest count₀ k₀ left count k = (k ≤ m) × (count ≤ k) × (length left ≡ length left₀) × (count ≡ length (those (stays oldest) (entries_to k body))) × (left ≡ put_entries left₀ head (those (stays oldest) (entries_to k body)))
 
-abbrev decreases-loop : tie.decreases-loop
-decreases-loop left₀ head body m oldest count₀ k₀ left count k = m - k
+abbrev decreases_loop : tie.decreases_loop
+decreases_loop left₀ head body m oldest count₀ k₀ left count k = m - k
 
-loop-holds : tie.Need-loop-init invariant-loop decreases-loop
-unfolding entriesTo those putEntries
-loop-holds c = (omega arith, omega arith, refl, refl, refl)
+loop_holds : tie.Need-loop-init invariant_loop decreases_loop
+unfolding entries_to those put_entries
+loop_holds c = (omega arith, omega arith, refl, refl, refl)
 
-entry-after-requires : tie.Need-entry-after-requires invariant-loop decreases-loop
-entry-after-requires c κs = search rules
+entry_after_requires : tie.Need-entry-after-requires invariant_loop decreases_loop
+entry_after_requires c κs = search rules
 
-put-next-requires : tie.Need-put-next-requires invariant-loop decreases-loop
-put-next-requires c κs = let loop = c.before.before.before in omega (arith, loop.loop.invariant.0, loop.loop.invariant.1)
+put_next_requires : tie.Need-put-next-requires invariant_loop decreases_loop
+put_next_requires c κs = let loop = c.before.before.before in omega (arith, loop.loop.invariant.0, loop.loop.invariant.1)
 
-add-k : tie.Need-overflow-add-k invariant-loop decreases-loop
-add-k c = omega arith
+add_k : tie.Need-overflow-add-k invariant_loop decreases_loop
+add_k c = omega arith
 
-loop-less : tie.Need-loop-smaller invariant-loop decreases-loop
-loop-less c = omega arith
+loop_less : tie.Need-loop-smaller invariant_loop decreases_loop
+loop_less c = omega arith
 
-loop-again : tie.Need-loop-preserved invariant-loop decreases-loop
+loop_again : tie.Need-loop-preserved invariant_loop decreases_loop
 unfolding those
-loop-again c =
+loop_again c =
     let put = c.before.before in
     let entry = put.before.before in
     let inv = entry.before.before.loop.invariant in
     let more = put.put_next.ensures.1 _ _ inv.3 inv.4 in
-    (omega arith, omega (arith, put.put_next.ensures.0, inv.1), put.put_next.auto.0 ∙ inv.2, rw (one_more, ← entry.entry-after.ensures) more.0, rw (one_more, ← entry.entry-after.ensures) more.1)
+    (omega arith, omega (arith, put.put_next.ensures.0, inv.1), put.put_next.auto.0 ∙ inv.2, rw (one_more, ← entry.entry_after.ensures) more.0, rw (one_more, ← entry.entry_after.ensures) more.1)
 
-same_length : tie.Need-same-length invariant-loop decreases-loop
+same_length : tie.Need-same-length invariant_loop decreases_loop
 same_length c = search rules
 
-returns : tie.Need-returns invariant-loop decreases-loop
+returns : tie.Need-returns invariant_loop decreases_loop
 returns c =
     let e : c.before.loop.k ≡ c.before.before.before.before.args.m = omega (arith, c.before.loop.invariant.0) in
     rw e at c.before.loop.invariant.4
 
-pub put-left-spec : {M : Type 1} → statement M
-put-left-spec =
+pub put_left_spec : {M : Type 1} → statement M
+put_left_spec =
     tie.close
     (tie.spec
-    invariant-loop
-    decreases-loop
-    loop-holds
-    entry-after-requires
-    put-next-requires
-    add-k
-    loop-less
-    loop-again
+    invariant_loop
+    decreases_loop
+    loop_holds
+    entry_after_requires
+    put_next_requires
+    add_k
+    loop_less
+    loop_again
     same_length
     returns)

@@ -7,52 +7,52 @@ use native.Mathlib.Omega.{arith}
 use borrow.Author.Tests.{not-true, not-false}
 use lib.ListN.{length}
 use Rattle.terms.specs.declared.entry.Entry.{Entry}
-use Rattle.terms.specs.Entry.{keepIf}
+use Rattle.terms.specs.Entry.{keep_if}
 use Rattle.register.specs.declared.head.Head.{Head}
-use Rattle.register.specs.Entries.{putEntry}
-use Rattle.register.specs.Head.{offsetAfter}
-use Rattle.journal.specs.Journal.{putEntries}
+use Rattle.register.specs.Entries.{put_entry}
+use Rattle.register.specs.Head.{offset_after}
+use Rattle.journal.specs.Journal.{put_entries}
 use borrow.Author.Rules.{rules}
 use Rattle.fold.proofs.left.put_next.Statement.{statement}
 use Rattle.fold.proofs.left.put_next.Tie as tie
 
 module _ (head : Head) (e : Entry) {b : Bool} {count : ℕ} where
-  kept-as : b ≡ false → (area : List ℕ) (es : List Entry) → count ≡ length es → {left : List ℕ} → left ≡ putEntries area head es → (count ≡ length (keepIf b e es)) × (left ≡ putEntries area head (keepIf b e es))
-  kept-as h area es n p = rw h (n, p)
+  kept_as : b ≡ false → (area : List ℕ) (es : List Entry) → count ≡ length es → {left : List ℕ} → left ≡ put_entries area head es → (count ≡ length (keep_if b e es)) × (left ≡ put_entries area head (keep_if b e es))
+  kept_as h area es n p = rw h (n, p)
 
-  put_as : b ≡ true → (area : List ℕ) (es : List Entry) → count ≡ length es → {left after : List ℕ} {at : ℕ} → left ≡ putEntries area head es → at ≡ offsetAfter head count → after ≡ putEntry left at e → (count + 1 ≡ length (keepIf b e es)) × (after ≡ putEntries area head (keepIf b e es))
-  unfolding putEntries
+  put_as : b ≡ true → (area : List ℕ) (es : List Entry) → count ≡ length es → {left after : List ℕ} {at : ℕ} → left ≡ put_entries area head es → at ≡ offset_after head count → after ≡ put_entry left at e → (count + 1 ≡ length (keep_if b e es)) × (after ≡ put_entries area head (keep_if b e es))
+  unfolding put_entries
   put_as h area es n p at after = rw h (omega arith, rw (after, p, at, n))
 
-stays-requires : tie.Need-stays-requires
-stays-requires c κs = search rules
+stays_requires : tie.Need-stays-requires
+stays_requires c κs = search rules
 
 returns : tie.Need-returns
-returns c = (omega arith, λ area es n p. kept-as _ _ (sym c.before.stays.ensures ∙ not-true _ c.if1.true) area es n p)
+returns c = (omega arith, λ area es n p. kept_as _ _ (sym c.before.stays.ensures ∙ not-true _ c.if1.true) area es n p)
 
-offset-after-requires : tie.Need-offset-after-requires
-offset-after-requires c κs = search rules
+offset_after_requires : tie.Need-offset-after-requires
+offset_after_requires c κs = search rules
 
-put-entry-requires : tie.Need-put-entry-requires
-put-entry-requires c κs = search rules
+put_entry_requires : tie.Need-put-entry-requires
+put_entry_requires c κs = search rules
 
-add-result : tie.Need-overflow-add-result
-add-result c = search rules
+add_result : tie.Need-overflow-add-result
+add_result c = search rules
 
 same_length : tie.Need-same-length
 same_length c = search rules
 
-returns-2 : tie.Need-returns-2
-returns-2 c = let put = c.before.before in let e = put.before.before.before in (omega arith, λ area es n p. put_as _ _ (sym e.before.stays.ensures ∙ not-false _ e.if1.false) area es n p put.before.offset-after.ensures put.put-entry.ensures)
+returns_2 : tie.Need-returns-2
+returns_2 c = let put = c.before.before in let e = put.before.before.before in (omega arith, λ area es n p. put_as _ _ (sym e.before.stays.ensures ∙ not-false _ e.if1.false) area es n p put.before.offset_after.ensures put.put_entry.ensures)
 
-pub put-next-spec : {M : Type 1} → statement M
-put-next-spec =
+pub put_next_spec : {M : Type 1} → statement M
+put_next_spec =
     tie.close
     (tie.spec
-    stays-requires
+    stays_requires
     returns
-    offset-after-requires
-    put-entry-requires
-    add-result
+    offset_after_requires
+    put_entry_requires
+    add_result
     same_length
-    returns-2)
+    returns_2)

@@ -6,19 +6,19 @@ use borrow.Author.Tests.{le-ltb}
 use lib.Dec.{ltb}
 use Rattle.terms.specs.declared.entry.Slot.{Slot}
 use Rattle.terms.specs.declared.entry.Slot.TheVariants.{Read, Empty}
-use Rattle.journal.specs.Journal.{dayOf}
-use Rattle.journal.specs.Sound.{holds, isBefore, isCarry}
+use Rattle.journal.specs.Journal.{day_of}
+use Rattle.journal.specs.Sound.{holds, is_before, is_carry}
 use Rattle.journal.proofs.carry.is_carry.Statement.{statement}
 use Rattle.journal.proofs.carry.is_carry.Tie as tie
 
-before-day : (folded : ℕ) (slot : Slot) → isBefore folded slot ≡ ltb folded (dayOf slot)
-unfolding isBefore dayOf
-before-day folded (Read oldest) = refl
-before-day folded Empty = sym (le-ltb folded 0 (omega arith))
+before_day : (folded : ℕ) (slot : Slot) → is_before folded slot ≡ ltb folded (day_of slot)
+unfolding is_before day_of
+before_day folded (Read oldest) = refl
+before_day folded Empty = sym (le-ltb folded 0 (omega arith))
 
 returns : tie.Need-returns
-unfolding isCarry holds
-returns c = λ limit slot day. rw (before-day, ← day, ← limit)
+unfolding is_carry holds
+returns c = λ limit slot day. rw (before_day, ← day, ← limit)
 
-pub is-carry-spec : {M : Type 1} → statement M
-is-carry-spec = tie.close (tie.spec returns)
+pub is_carry_spec : {M : Type 1} → statement M
+is_carry_spec = tie.close (tie.spec returns)

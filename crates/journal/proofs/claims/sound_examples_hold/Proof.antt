@@ -1,97 +1,97 @@
 -- Every example computes to what it says.
 use mathlib.Core.Path.{refl}
-use Rattle.arithmetic.specs.Powers.{tenTo}
-use Rattle.terms.specs.Entry.{isStanding, isWithdrawn, is_held, those}
-use Rattle.terms.specs.Letter.{isKnown, isOpening, isFinal, isHoldable}
-use Rattle.terms.specs.Profile.{meterKind, profileOf, takes}
+use Rattle.arithmetic.specs.Powers.{ten_to}
+use Rattle.terms.specs.Entry.{is_standing, is_withdrawn, is_held, those}
+use Rattle.terms.specs.Letter.{is_known, is_opening, is_final, is_holdable}
+use Rattle.terms.specs.Profile.{meter_kind, profile_of, takes}
 use Rattle.terms.specs.Tables.{below}
-use Rattle.register.specs.Area.{allZero}
-use Rattle.register.specs.Bytes.{word_at, longAt, putWord, putLong}
-use Rattle.register.specs.Entries.{entryAt, putEntry}
-use Rattle.register.specs.Head.{isCarryAt, carryAt, no_carry, head_of, putMeter, putCarry, putHead, headBytes, mostEntries, body_of, offsetAfter}
-use Rattle.journal.specs.Journal.{entriesTo, countFrom, entryCount, journalOf, held_of, onDay, firstValue, oldestOf, newestAt, putEntries, areaFor}
-use Rattle.journal.specs.Sound.{every, any, isPlate, isHead, holds, opens, isInRange, isRead, daysRise, opensRight, hasOneFinal, hasRead, areApart, exists, mayBeHeld, isHeldRight, isBefore, isCarry, carriesRight, areInOrder, areSound, isSound}
+use Rattle.register.specs.Area.{all_zero}
+use Rattle.register.specs.Bytes.{word_at, long_at, put_word, put_long}
+use Rattle.register.specs.Entries.{entry_at, put_entry}
+use Rattle.register.specs.Head.{is_carry_at, carry_at, no_carry, head_of, put_meter, put_carry, put_head, head_bytes, most_entries, body_of, offset_after}
+use Rattle.journal.specs.Journal.{entries_to, count_from, entry_count, journal_of, held_of, on_day, first_value, oldest_of, newest_at, put_entries, area_for}
+use Rattle.journal.specs.Sound.{every, any, is_plate, is_head, holds, opens, is_in_range, is_read, days_rise, opens_right, has_one_final, has_read, are_apart, exists, may_be_held, is_held_right, is_before, is_carry, carries_right, are_in_order, are_sound, is_sound}
 use Rattle.journal.proofs.claims.sound_examples_hold.Statement.{statement}
 use Rattle.journal.proofs.claims.sound_examples_hold.Tie as tie
 
 returns : tie.Need-returns
-unfolding tenTo isStanding isWithdrawn is_held those isKnown isOpening isFinal isHoldable meterKind profileOf takes below allZero word_at longAt putWord putLong entryAt putEntry isCarryAt carryAt no_carry head_of putMeter putCarry putHead headBytes mostEntries body_of offsetAfter entriesTo countFrom entryCount journalOf held_of onDay firstValue oldestOf newestAt putEntries areaFor every any isPlate isHead holds opens isInRange isRead daysRise opensRight hasOneFinal hasRead areApart exists mayBeHeld isHeldRight isBefore isCarry carriesRight areInOrder areSound isSound
+unfolding ten_to is_standing is_withdrawn is_held those is_known is_opening is_final is_holdable meter_kind profile_of takes below all_zero word_at long_at put_word put_long entry_at put_entry is_carry_at carry_at no_carry head_of put_meter put_carry put_head head_bytes most_entries body_of offset_after entries_to count_from entry_count journal_of held_of on_day first_value oldest_of newest_at put_entries area_for every any is_plate is_head holds opens is_in_range is_read days_rise opens_right has_one_final has_read are_apart exists may_be_held is_held_right is_before is_carry carries_right are_in_order are_sound is_sound
 returns c =
     record {
       empty = refl;
-      one-stands = refl;
-      two-stand = refl;
-      of-every-kind = refl;
+      one_stands = refl;
+      two_stand = refl;
+      of_every_kind = refl;
       kinds = refl;
-      day-1 = refl;
-      day-0 = refl;
-      day-0-withdrawn = refl;
-      value-9999 = refl;
-      value-10000 = refl;
-      value-10000-withdrawn = refl;
+      day_1 = refl;
+      day_0 = refl;
+      day_0_withdrawn = refl;
+      value_9999 = refl;
+      value_10000 = refl;
+      value_10000_withdrawn = refl;
       types = refl;
       indicators = refl;
       flags = refl;
-      indicator-of-I = refl;
-      indicator-of-O = refl;
-      indicator-of-I-withdrawn = refl;
-      indicator-of-O-after-a-carry = refl;
-      day-later = refl;
-      day-again = refl;
-      day-earlier = refl;
-      withdrawn-day-earlier = refl;
+      indicator_of_i = refl;
+      indicator_of_o = refl;
+      indicator_of_i_withdrawn = refl;
+      indicator_of_o_after_a_carry = refl;
+      day_later = refl;
+      day_again = refl;
+      day_earlier = refl;
+      withdrawn_day_earlier = refl;
       opens = refl;
-      opens-with-flag = refl;
-      opens-after-withdrawn = refl;
+      opens_with_flag = refl;
+      opens_after_withdrawn = refl;
       later = refl;
-      carried-opens = refl;
-      carried-flag-of-I = refl;
-      carried-flag-of-O = refl;
-      carried-flag-of-C = refl;
-      carried-flag-of-F = refl;
-      carried-later-I = refl;
-      carried-later-O = refl;
-      carried-none-stands = refl;
-      one-final = refl;
-      two-final = refl;
-      two-final-apart = refl;
-      final-withdrawn = refl;
-      other-value = refl;
-      other-day = refl;
+      carried_opens = refl;
+      carried_flag_of_i = refl;
+      carried_flag_of_o = refl;
+      carried_flag_of_c = refl;
+      carried_flag_of_f = refl;
+      carried_later_i = refl;
+      carried_later_o = refl;
+      carried_none_stands = refl;
+      one_final = refl;
+      two_final = refl;
+      two_final_apart = refl;
+      final_withdrawn = refl;
+      other_value = refl;
+      other_day = refl;
       same_read = refl;
-      same-read-later = refl;
-      withdrawn-twice = refl;
-      held-before-withdrawn = refl;
-      held-before-standing = refl;
-      two-held = refl;
+      same_read_later = refl;
+      withdrawn_twice = refl;
+      held_before_withdrawn = refl;
+      held_before_standing = refl;
+      two_held = refl;
       held_types = refl;
-      held-later = refl;
-      held-same-day = refl;
-      held-earlier = refl;
-      held-earlier-than-withdrawn = refl;
-      held-none-stands = refl;
-      held-after-final = refl;
-      held-second-final = refl;
-      held-final-after-withdrawn = refl;
-      no-entry = refl;
-      two-entries = refl;
-      fifty-entries = refl;
-      fewer-after-a-carry = refl;
-      journal-read = refl;
-      journal-written = refl;
-      zeros-to-the-end = refl;
-      not-all-zeros = refl;
-      only-first = refl;
-      no-first = refl;
-      kept-entries = refl;
-      held-entry = refl;
-      none-held = refl;
-      on-its-day = refl;
-      on-a-withdrawn-day = refl;
-      first-value = refl;
+      held_later = refl;
+      held_same_day = refl;
+      held_earlier = refl;
+      held_earlier_than_withdrawn = refl;
+      held_none_stands = refl;
+      held_after_final = refl;
+      held_second_final = refl;
+      held_final_after_withdrawn = refl;
+      no_entry = refl;
+      two_entries = refl;
+      fifty_entries = refl;
+      fewer_after_a_carry = refl;
+      journal_read = refl;
+      journal_written = refl;
+      zeros_to_the_end = refl;
+      not_all_zeros = refl;
+      only_first = refl;
+      no_first = refl;
+      kept_entries = refl;
+      held_entry_row = refl;
+      none_held = refl;
+      on_its_day = refl;
+      on_a_withdrawn_day = refl;
+      first_value_row = refl;
       oldest = refl;
-      newest-place = refl;
+      newest_place = refl;
     }
 
-pub sound-examples-hold-spec : {M : Type 1} → statement M
-sound-examples-hold-spec = tie.close (tie.spec returns)
+pub sound_examples_hold_spec : {M : Type 1} → statement M
+sound_examples_hold_spec = tie.close (tie.spec returns)

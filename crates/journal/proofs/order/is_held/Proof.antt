@@ -8,5 +8,5 @@ returns : tie.Need-returns
 unfolding is_held
 returns c = refl
 
-pub is-held-spec : {M : Type 1} → statement M
-is-held-spec = tie.close (tie.spec returns)
+pub is_held_spec : {M : Type 1} → statement M
+is_held_spec = tie.close (tie.spec returns)

@@ -1,24 +1,24 @@
 -- Each test that fails decides the definition, and what is left is its last three tests.
 use borrow.Author.Tests.{eq-eqb, ne_eqb, le-ltb, lt-ltb, not-true, not-false}
-use Rattle.journal.specs.Sound.{holds, isInRange}
+use Rattle.journal.specs.Sound.{holds, is_in_range}
 use borrow.Author.Rules.{rules}
 use Rattle.journal.proofs.order.is_in_range.Statement.{statement}
 use Rattle.journal.proofs.order.is_in_range.Tie as tie
 
 returns : tie.Need-returns
-unfolding isInRange holds
+unfolding is_in_range holds
 returns c = λ l. rw (eq-eqb _ _ c.if1.true)
 
-returns-2 : tie.Need-returns-2
-unfolding isInRange holds
-returns-2 c = λ l. rw (ne_eqb _ _ c.before.before.if1.false, ← l, le-ltb _ _ c.if2.true)
+returns_2 : tie.Need-returns-2
+unfolding is_in_range holds
+returns_2 c = λ l. rw (ne_eqb _ _ c.before.before.if1.false, ← l, le-ltb _ _ c.if2.true)
 
-takes-requires : tie.Need-takes-requires
-takes-requires c κs = search rules
+takes_requires : tie.Need-takes-requires
+takes_requires c κs = search rules
 
-returns-3 : tie.Need-returns-3
-unfolding isInRange holds
-returns-3 c =
+returns_3 : tie.Need-returns-3
+unfolding is_in_range holds
+returns_3 c =
     let small = c.before.before in
     λ l.
     rw (
@@ -29,12 +29,12 @@ returns-3 c =
       not-true c.before.takes.result c.if3.true,
     )
 
-is-opening-requires : tie.Need-is-opening-requires
-is-opening-requires c κs = search rules
+is_opening_requires : tie.Need-is-opening-requires
+is_opening_requires c κs = search rules
 
-returns-4 : tie.Need-returns-4
-unfolding isInRange holds
-returns-4 c =
+returns_4 : tie.Need-returns-4
+unfolding is_in_range holds
+returns_4 c =
     let known = c.before.before.before.before in
     let small = known.before.before in
     λ l.
@@ -44,16 +44,16 @@ returns-4 c =
       lt-ltb _ _ small.if2.false,
       ← known.before.takes.ensures,
       not-false known.before.takes.result known.if3.false,
-      c.before.is-opening.ensures,
+      c.before.is_opening.ensures,
     )
 
-pub is-in-range-spec : {M : Type 1} → statement M
-is-in-range-spec =
+pub is_in_range_spec : {M : Type 1} → statement M
+is_in_range_spec =
     tie.close
     (tie.spec
     returns
-    returns-2
-    takes-requires
-    returns-3
-    is-opening-requires
-    returns-4)
+    returns_2
+    takes_requires
+    returns_3
+    is_opening_requires
+    returns_4)

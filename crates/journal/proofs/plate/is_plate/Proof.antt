@@ -1,12 +1,12 @@
 -- The code is the definition, test for test.
 use mathlib.Core.Path.{refl}
-use Rattle.journal.specs.Sound.{isPlate}
+use Rattle.journal.specs.Sound.{is_plate}
 use Rattle.journal.proofs.plate.is_plate.Statement.{statement}
 use Rattle.journal.proofs.plate.is_plate.Tie as tie
 
 returns : tie.Need-returns
-unfolding isPlate
+unfolding is_plate
 returns c = refl
 
-pub is-plate-spec : {M : Type 1} → statement M
-is-plate-spec = tie.close (tie.spec returns)
+pub is_plate_spec : {M : Type 1} → statement M
+is_plate_spec = tie.close (tie.spec returns)

@@ -1,30 +1,30 @@
 -- Every example computes to what it says.
 use mathlib.Core.Path.{refl}
-use Rattle.arithmetic.specs.Powers.{tenTo}
-use Rattle.terms.specs.Profile.{meterKind, profileOf}
-use Rattle.register.specs.Bytes.{word_at, longAt}
-use Rattle.register.specs.Head.{isCarryAt, carryAt, no_carry, head_of}
-use Rattle.journal.specs.Sound.{isPlate, isHead, holds}
+use Rattle.arithmetic.specs.Powers.{ten_to}
+use Rattle.terms.specs.Profile.{meter_kind, profile_of}
+use Rattle.register.specs.Bytes.{word_at, long_at}
+use Rattle.register.specs.Head.{is_carry_at, carry_at, no_carry, head_of}
+use Rattle.journal.specs.Sound.{is_plate, is_head, holds}
 use Rattle.journal.proofs.plate.plates_hold.Statement.{statement}
 use Rattle.journal.proofs.plate.plates_hold.Tie as tie
 
 returns : tie.Need-returns
-unfolding tenTo meterKind profileOf word_at longAt isCarryAt carryAt no_carry head_of isPlate isHead holds
+unfolding ten_to meter_kind profile_of word_at long_at is_carry_at carry_at no_carry head_of is_plate is_head holds
 returns c =
     record {
-      two-dials = refl;
-      three-dials = refl;
-      pseudo-of-two = refl;
-      pseudo-of-three = refl;
-      nine-dials = refl;
-      ten-dials = refl;
-      no-capacity = refl;
-      head-of-two = refl;
-      head-of-three = refl;
-      pseudo-head-of-three = refl;
-      largest-value = refl;
-      past-the-dials = refl;
+      two_dials = refl;
+      three_dials = refl;
+      pseudo_of_two = refl;
+      pseudo_of_three = refl;
+      nine_dials = refl;
+      ten_dials = refl;
+      no_capacity = refl;
+      head_of_two = refl;
+      head_of_three = refl;
+      pseudo_head_of_three = refl;
+      largest_value = refl;
+      past_the_dials = refl;
     }
 
-pub plates-hold-spec : {M : Type 1} → statement M
-plates-hold-spec = tie.close (tie.spec returns)
+pub plates_hold_spec : {M : Type 1} → statement M
+plates_hold_spec = tie.close (tie.spec returns)

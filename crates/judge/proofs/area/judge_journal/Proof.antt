@@ -7,93 +7,93 @@ use native.Mathlib.Omega.{arith}
 use borrow.Author.Tests.{not-true, not-false}
 use borrow.Author.Rules.{rules}
 use lib.ListN.{length}
-use Rattle.register.specs.Area.{area_bytes, allZero}
-use Rattle.register.specs.Head.{head_of, headBytes, body_of}
-use Rattle.register.proofs.Body.{body-length, body-lent, lent-room}
+use Rattle.register.specs.Area.{area_bytes, all_zero}
+use Rattle.register.specs.Head.{head_of, head_bytes, body_of}
+use Rattle.register.proofs.Body.{body_length, body_lent, lent_room}
 use Rattle.judge.specs.declared.area.Judged.TheVariants.{Damaged}
-use Rattle.journal.specs.Journal.{entryCount, journalOf}
-use Rattle.journal.specs.Sound.{isHead, isSound}
-use Rattle.judge.specs.Inner.Judged.{judged, isWhole, judgedBody}
-use Rattle.judge.proofs.Verdicts.{damaged-answers}
+use Rattle.journal.specs.Journal.{entry_count, journal_of}
+use Rattle.journal.specs.Sound.{is_head, is_sound}
+use Rattle.judge.specs.Inner.Judged.{judged, is_whole, judged_body}
+use Rattle.judge.proofs.Verdicts.{damaged_answers}
 use Rattle.judge.proofs.area.judge_journal.Statement.{statement}
 use Rattle.judge.proofs.area.judge_journal.Tie as tie
 
-module _ (a : List ℕ) (known : (length a ≡ area_bytes) × (allZero a ≡ false)) where
-  headless : isHead a ≡ false → judged a ≡ Damaged
-  unfolding judged isSound
+module _ (a : List ℕ) (known : (length a ≡ area_bytes) × (all_zero a ≡ false)) where
+  headless : is_head a ≡ false → judged a ≡ Damaged
+  unfolding judged is_sound
   headless h = rw (known.0, known.1, h)
 
-  by-body : isHead a ≡ true → judged a ≡ judgedBody (head_of a) (body_of a)
-  unfolding judged isSound judgedBody isWhole entryCount journalOf
-  by-body h = rw (known.0, known.1, h)
+  by_body : is_head a ≡ true → judged a ≡ judged_body (head_of a) (body_of a)
+  unfolding judged is_sound judged_body is_whole entry_count journal_of
+  by_body h = rw (known.0, known.1, h)
 
 -- where the body starts
 module _ (c : tie.After-head-bytes) where
   abbrev area : List ℕ
   area = c.before.before.before.before.before.args.area.now
 
-  starts : c.head_bytes.result ≡ headBytes (head_of area)
-  starts = rw c.before.before.before.head-of.ensures at c.head_bytes.ensures
+  starts : c.head_bytes.result ≡ head_bytes (head_of area)
+  starts = rw c.before.before.before.head_of_lem.ensures at c.head_bytes.ensures
 
   room : c.head_bytes.result ≤ length area
-  room = omega (arith, starts, body-length area c.before.before.before.before.before.requires.0)
+  room = omega (arith, starts, body_length area c.before.before.before.before.before.requires.0)
 
-head-of-requires : tie.Need-head-of-requires
-head-of-requires c κs = search rules
+head_of_requires : tie.Need-head-of-requires
+head_of_requires c κs = search rules
 
-is-head-requires : tie.Need-is-head-requires
-is-head-requires c κs = search rules
+is_head_requires : tie.Need-is-head-requires
+is_head_requires c κs = search rules
 
-no-journal-requires : tie.Need-no-journal-requires
-no-journal-requires c κs = search rules
+no_journal_requires : tie.Need-no-journal-requires
+no_journal_requires c κs = search rules
 
 returns : tie.Need-returns
 returns c =
     let checked = c.before.before in
     let start = checked.before.before.before in
-    damaged-answers c.no-journal.ensures (headless _ start.requires (sym checked.is-head.ensures ∙ not-true _ c.before.if1.true))
+    damaged_answers c.no_journal.ensures (headless _ start.requires (sym checked.is_head.ensures ∙ not-true _ c.before.if1.true))
 
-head-bytes-requires : tie.Need-head-bytes-requires
-head-bytes-requires c κs = search rules
+head_bytes_requires : tie.Need-head-bytes-requires
+head_bytes_requires c κs = search rules
 
-sub-judge-body : tie.Need-overflow-sub-judge-body
-sub-judge-body c = room c
+sub_judge_body : tie.Need-overflow-sub-judge-body
+sub_judge_body c = room c
 
-part-judge-body-start : tie.Need-slice-bounds-judge-body-start
-part-judge-body-start c = room c
+part_judge_body_start : tie.Need-slice-bounds-judge-body-start
+part_judge_body_start c = room c
 
-part-judge-body-end : tie.Need-slice-bounds-judge-body-end
-part-judge-body-end c = search rules
+part_judge_body_end : tie.Need-slice-bounds-judge-body-end
+part_judge_body_end c = search rules
 
-judge-body-requires : tie.Need-judge-body-requires
-judge-body-requires c κs =
+judge_body_requires : tie.Need-judge-body-requires
+judge_body_requires c κs =
     let h = c.before in
     let head = h.before.before.before in
-    lent-room (area h) head.head-of.result h.head_bytes.result head.head-of.ensures (starts h) head.before.before.requires.0
+    lent_room (area h) head.head_of_lem.result h.head_bytes.result head.head_of_lem.ensures (starts h) head.before.before.requires.0
 
-returns-2 : tie.Need-returns-2
-returns-2 c =
+returns_2 : tie.Need-returns-2
+returns_2 c =
     let h = c.before.before in
     let head = h.before.before in
     let start = head.before.before.before in
     rw (
-      by-body _ start.requires (sym head.is-head.ensures ∙ not-false _ h.before.if1.false),
-      ← body-lent (area h) h.head_bytes.result (starts h),
-      ← head.before.head-of.ensures,
+      by_body _ start.requires (sym head.is_head.ensures ∙ not-false _ h.before.if1.false),
+      ← body_lent (area h) h.head_bytes.result (starts h),
+      ← head.before.head_of_lem.ensures,
     )
-    c.judge-body.ensures
+    c.judge_body.ensures
 
-pub judge-journal-spec : {M : Type 1} → statement M
-judge-journal-spec =
+pub judge_journal_spec : {M : Type 1} → statement M
+judge_journal_spec =
     tie.close
     (tie.spec
-    head-of-requires
-    is-head-requires
-    no-journal-requires
+    head_of_requires
+    is_head_requires
+    no_journal_requires
     returns
-    head-bytes-requires
-    sub-judge-body
-    part-judge-body-start
-    part-judge-body-end
-    judge-body-requires
-    returns-2)
+    head_bytes_requires
+    sub_judge_body
+    part_judge_body_start
+    part_judge_body_end
+    judge_body_requires
+    returns_2)

@@ -4,14 +4,14 @@ use borrow.Author.Rules.{rules}
 use Rattle.judge.proofs.area.kept_of.Statement.{statement}
 use Rattle.judge.proofs.area.kept_of.Tie as tie
 
-sub-result : tie.Need-overflow-sub-result
-sub-result c = omega (arith, c.before.requires c.if1.true)
+sub_result : tie.Need-overflow-sub-result
+sub_result c = omega (arith, c.before.requires c.if1.true)
 
 returns : tie.Need-returns
 returns c = rw c.if1.true
 
-returns-2 : tie.Need-returns-2
-returns-2 c = search rules
+returns_2 : tie.Need-returns-2
+returns_2 c = search rules
 
-pub kept-of-spec : {M : Type 1} → statement M
-kept-of-spec = tie.close (tie.spec sub-result returns returns-2)
+pub kept_of_spec : {M : Type 1} → statement M
+kept_of_spec = tie.close (tie.spec sub_result returns returns_2)

@@ -5,72 +5,72 @@ use Prim.Native.Nat.{◌-◌, ◌≤◌}
 use native.Mathlib.Omega.{arith}
 use borrow.Author.Rules.{rules}
 use Rattle.terms.specs.Entry.{those}
-use Rattle.journal.specs.Journal.{entriesTo, standing, oldestOf, dayOf}
-use Rattle.judge.proofs.Carries.{none_yet, oldest-is}
+use Rattle.journal.specs.Journal.{entries_to, standing, oldest_of, day_of}
+use Rattle.judge.proofs.Carries.{none_yet, oldest_is}
 use Rattle.judge.proofs.carry.oldest_day.Statement.{statement}
 use Rattle.judge.proofs.carry.oldest_day.Tie as tie
 
-abbrev invariant-loop : tie.invariant-loop
-invariant-loop body m k₀ k = (k ≤ m) × (standing (entriesTo k body) ≡ [])
+abbrev invariant_loop : tie.invariant_loop
+invariant_loop body m k₀ k = (k ≤ m) × (standing (entries_to k body) ≡ [])
 
-abbrev decreases-loop : tie.decreases-loop
-decreases-loop body m k₀ k = m - k
+abbrev decreases_loop : tie.decreases_loop
+decreases_loop body m k₀ k = m - k
 
-loop-holds : tie.Need-loop-init invariant-loop decreases-loop
-unfolding those entriesTo
-loop-holds c = (omega arith, refl)
+loop_holds : tie.Need-loop-init invariant_loop decreases_loop
+unfolding those entries_to
+loop_holds c = (omega arith, refl)
 
-entry-at-requires : tie.Need-entry-at-requires invariant-loop decreases-loop
-entry-at-requires c κs = search rules
+entry_at_requires : tie.Need-entry-at-requires invariant_loop decreases_loop
+entry_at_requires c κs = search rules
 
-is-standing-requires : tie.Need-is-standing-requires invariant-loop decreases-loop
-is-standing-requires c κs = search rules
+is_standing_requires : tie.Need-is-standing-requires invariant_loop decreases_loop
+is_standing_requires c κs = search rules
 
-returns : tie.Need-returns invariant-loop decreases-loop
+returns : tie.Need-returns invariant_loop decreases_loop
 returns c =
     let stands = c.before in
     let read = stands.before in
     let old = read.before.before in
-    oldest-is
+    oldest_is
     _
     old.loop.k
     read.entry_at.ensures
-    stands.is-standing.ensures
+    stands.is_standing.ensures
     old.loop.invariant.1
     _
     (omega arith)
     c.if1.true
 
-add-k : tie.Need-overflow-add-k invariant-loop decreases-loop
-add-k c = omega arith
+add_k : tie.Need-overflow-add-k invariant_loop decreases_loop
+add_k c = omega arith
 
-loop-less : tie.Need-loop-smaller invariant-loop decreases-loop
-loop-less c = omega arith
+loop_less : tie.Need-loop-smaller invariant_loop decreases_loop
+loop_less c = omega arith
 
-loop-again : tie.Need-loop-preserved invariant-loop decreases-loop
-loop-again c =
+loop_again : tie.Need-loop-preserved invariant_loop decreases_loop
+loop_again c =
     let stands = c.before in
     let read = stands.before in
     let old = read.before.before in
-    (omega arith, none_yet _ old.loop.k read.entry_at.ensures stands.is-standing.ensures old.loop.invariant.1 c.if1.false)
+    (omega arith, none_yet _ old.loop.k read.entry_at.ensures stands.is_standing.ensures old.loop.invariant.1 c.if1.false)
 
-returns-2 : tie.Need-returns-2 invariant-loop decreases-loop
-unfolding oldestOf dayOf
-returns-2 c =
+returns_2 : tie.Need-returns-2 invariant_loop decreases_loop
+unfolding oldest_of day_of
+returns_2 c =
     let e : c.before.loop.k ≡ c.before.before.before.args.m = omega arith in
     rw (← e, c.before.loop.invariant.1)
 
-pub oldest-day-spec : {M : Type 1} → statement M
-oldest-day-spec =
+pub oldest_day_spec : {M : Type 1} → statement M
+oldest_day_spec =
     tie.close
     (tie.spec
-    invariant-loop
-    decreases-loop
-    loop-holds
-    entry-at-requires
-    is-standing-requires
+    invariant_loop
+    decreases_loop
+    loop_holds
+    entry_at_requires
+    is_standing_requires
     returns
-    add-k
-    loop-less
-    loop-again
-    returns-2)
+    add_k
+    loop_less
+    loop_again
+    returns_2)

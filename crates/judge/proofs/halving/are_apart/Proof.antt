@@ -4,83 +4,83 @@ use mathlib.Core.Bool.{true}
 use Prim.Native.Nat.{◌-◌, ◌≤◌}
 use native.Mathlib.Omega.{arith}
 use Rattle.terms.specs.Entry.{those}
-use Rattle.journal.specs.Journal.{entriesTo, standing, withdrawn}
-use Rattle.journal.specs.Sound.{areApart, every}
-use Rattle.judge.proofs.Halved.{apart-on, apart-ends}
+use Rattle.journal.specs.Journal.{entries_to, standing, withdrawn}
+use Rattle.journal.specs.Sound.{are_apart, every}
+use Rattle.judge.proofs.Halved.{apart_on, apart_ends}
 use Rattle.judge.proofs.halving.are_apart.Statement.{statement}
 use Rattle.judge.proofs.halving.are_apart.Tie as tie
 
-abbrev invariant-loop : tie.invariant-loop
-invariant-loop body m last places n marks k₀ k = (k ≤ m) × (areApart (standing (entriesTo m body)) (withdrawn (entriesTo k body)) ≡ true)
+abbrev invariant_loop : tie.invariant_loop
+invariant_loop body m last places n marks k₀ k = (k ≤ m) × (are_apart (standing (entries_to m body)) (withdrawn (entries_to k body)) ≡ true)
 
-abbrev decreases-loop : tie.decreases-loop
-decreases-loop body m last places n marks k₀ k = m - k
+abbrev decreases_loop : tie.decreases_loop
+decreases_loop body m last places n marks k₀ k = m - k
 
-note-standing-requires : tie.Need-note-standing-requires invariant-loop decreases-loop
-note-standing-requires c κs = (c.before.before.requires.0, omega arith)
+note_standing_requires : tie.Need-note-standing-requires invariant_loop decreases_loop
+note_standing_requires c κs = (c.before.before.requires.0, omega arith)
 
 -- each place noted is of an entry of the body
-marks-over-requires : tie.Need-marks-over-requires invariant-loop decreases-loop
-marks-over-requires c κs =
+marks_over_requires : tie.Need-marks-over-requires invariant_loop decreases_loop
+marks_over_requires c κs =
     let noted = c.before in
-    λ i h. omega (arith, noted.note-standing.ensures.below i h, noted.before.before.before.requires.0)
+    λ i h. omega (arith, noted.note_standing.ensures.below i h, noted.before.before.before.requires.0)
 
-loop-holds : tie.Need-loop-init invariant-loop decreases-loop
-unfolding areApart every those entriesTo
-loop-holds c = (omega arith, refl)
+loop_holds : tie.Need-loop-init invariant_loop decreases_loop
+unfolding are_apart every those entries_to
+loop_holds c = (omega arith, refl)
 
-entry-at-requires : tie.Need-entry-at-requires invariant-loop decreases-loop
-entry-at-requires c κs =
+entry_at_requires : tie.Need-entry-at-requires invariant_loop decreases_loop
+entry_at_requires c κs =
     let room = c.before.before.before.before.before.before.before.before.requires.0 in
     omega arith
 
-stands-again-requires : tie.Need-stands-again-requires invariant-loop decreases-loop
-stands-again-requires c κs =
+stands_again_requires : tie.Need-stands-again-requires invariant_loop decreases_loop
+stands_again_requires c κs =
     let marked = c.before.before.before.before in
     let noted = marked.before.before in
     let start = noted.before.before.before in
-    let places = noted.note-standing.ensures in
-    ((λ i h. omega (arith, places.below i h, start.requires.0)), (rw places.same start.requires.1.1, (rw places.same start.requires.1.0, marked.marks-over.ensures)))
+    let places = noted.note_standing.ensures in
+    ((λ i h. omega (arith, places.below i h, start.requires.0)), (rw places.same start.requires.1.1, (rw places.same start.requires.1.0, marked.marks_over.ensures)))
 
-returns : tie.Need-returns invariant-loop decreases-loop
+returns : tie.Need-returns invariant_loop decreases_loop
 returns c =
     let again = c.before in
     let read = again.before in
-    let places = read.before.before.before.before.before.before.note-standing.ensures in
-    sym (apart-ends _ _ _ read.entry_at.ensures (rw places.same at again.stands-again.ensures) _ read.before.before.loop-test.true c.if1.true)
+    let places = read.before.before.before.before.before.before.note_standing.ensures in
+    sym (apart_ends _ _ _ read.entry_at.ensures (rw places.same at again.stands_again.ensures) _ read.before.before.loop_test.true c.if1.true)
 
-add-k : tie.Need-overflow-add-k invariant-loop decreases-loop
-add-k c = omega arith
+add_k : tie.Need-overflow-add-k invariant_loop decreases_loop
+add_k c = omega arith
 
-loop-less : tie.Need-loop-smaller invariant-loop decreases-loop
-loop-less c = omega arith
+loop_less : tie.Need-loop-smaller invariant_loop decreases_loop
+loop_less c = omega arith
 
-loop-again : tie.Need-loop-preserved invariant-loop decreases-loop
-loop-again c =
+loop_again : tie.Need-loop-preserved invariant_loop decreases_loop
+loop_again c =
     let again = c.before in
     let read = again.before in
     let at = read.before.before.before in
-    let places = at.before.before.before.note-standing.ensures in
-    (omega arith, apart-on _ _ _ read.entry_at.ensures (rw places.same at again.stands-again.ensures) c.if1.false at.loop.invariant.1)
+    let places = at.before.before.before.note_standing.ensures in
+    (omega arith, apart_on _ _ _ read.entry_at.ensures (rw places.same at again.stands_again.ensures) c.if1.false at.loop.invariant.1)
 
-returns-2 : tie.Need-returns-2 invariant-loop decreases-loop
-returns-2 c =
+returns_2 : tie.Need-returns-2 invariant_loop decreases_loop
+returns_2 c =
     let e : c.before.loop.k ≡ c.before.before.before.before.before.before.before.args.m = omega arith in
     sym (rw e at c.before.loop.invariant.1)
 
-pub are-apart-spec : {M : Type 1} → statement M
-are-apart-spec =
+pub are_apart_spec : {M : Type 1} → statement M
+are_apart_spec =
     tie.close
     (tie.spec
-    invariant-loop
-    decreases-loop
-    note-standing-requires
-    marks-over-requires
-    loop-holds
-    entry-at-requires
-    stands-again-requires
+    invariant_loop
+    decreases_loop
+    note_standing_requires
+    marks_over_requires
+    loop_holds
+    entry_at_requires
+    stands_again_requires
     returns
-    add-k
-    loop-less
-    loop-again
-    returns-2)
+    add_k
+    loop_less
+    loop_again
+    returns_2)

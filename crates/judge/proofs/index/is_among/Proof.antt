@@ -3,61 +3,61 @@ use mathlib.Core.Path.{◌≡◌, refl}
 use Prim.Native.Nat.{◌-◌, ◌≤◌}
 use native.Mathlib.Omega.{arith}
 use borrow.Author.Rules.{rules}
-use Rattle.terms.specs.Entry.{isWithdrawn, those}
-use Rattle.journal.specs.Journal.{entriesTo, withdrawn}
-use Rattle.journal.specs.Sound.{any, hasRead}
-use Rattle.journal.proofs.Entries.{those-more, any-kept}
+use Rattle.terms.specs.Entry.{is_withdrawn, those}
+use Rattle.journal.specs.Journal.{entries_to, withdrawn}
+use Rattle.journal.specs.Sound.{any, has_read}
+use Rattle.journal.proofs.Entries.{those_more, any_kept}
 use Rattle.judge.proofs.index.is_among.Statement.{statement}
 use Rattle.judge.proofs.index.is_among.Tie as tie
 
-abbrev invariant-loop : tie.invariant-loop
-invariant-loop body m day value found₀ k₀ found k = (k ≤ m) × (found ≡ any (hasRead day value) (withdrawn (entriesTo k body)))
+abbrev invariant_loop : tie.invariant_loop
+invariant_loop body m day value found₀ k₀ found k = (k ≤ m) × (found ≡ any (has_read day value) (withdrawn (entries_to k body)))
 
-abbrev decreases-loop : tie.decreases-loop
-decreases-loop body m day value found₀ k₀ found k = m - k
+abbrev decreases_loop : tie.decreases_loop
+decreases_loop body m day value found₀ k₀ found k = m - k
 
-loop-holds : tie.Need-loop-init invariant-loop decreases-loop
-unfolding any those entriesTo
-loop-holds c = (omega arith, refl)
+loop_holds : tie.Need-loop-init invariant_loop decreases_loop
+unfolding any those entries_to
+loop_holds c = (omega arith, refl)
 
-entry-at-requires : tie.Need-entry-at-requires invariant-loop decreases-loop
-entry-at-requires c κs = search rules
+entry_at_requires : tie.Need-entry-at-requires invariant_loop decreases_loop
+entry_at_requires c κs = search rules
 
-is-withdrawn-requires : tie.Need-is-withdrawn-requires invariant-loop decreases-loop
-is-withdrawn-requires c κs = search rules
+is_withdrawn_requires : tie.Need-is-withdrawn-requires invariant_loop decreases_loop
+is_withdrawn_requires c κs = search rules
 
-has-read-requires : tie.Need-has-read-requires invariant-loop decreases-loop
-has-read-requires c κs = search rules
+has_read_requires : tie.Need-has-read-requires invariant_loop decreases_loop
+has_read_requires c κs = search rules
 
-add-k : tie.Need-overflow-add-k invariant-loop decreases-loop
-add-k c = omega arith
+add_k : tie.Need-overflow-add-k invariant_loop decreases_loop
+add_k c = omega arith
 
-loop-less : tie.Need-loop-smaller invariant-loop decreases-loop
-loop-less c = omega arith
+loop_less : tie.Need-loop-smaller invariant_loop decreases_loop
+loop_less c = omega arith
 
-loop-again : tie.Need-loop-preserved invariant-loop decreases-loop
-loop-again c =
+loop_again : tie.Need-loop-preserved invariant_loop decreases_loop
+loop_again c =
     let gone = c.before in
     let read = gone.before in
     let old = read.before.before in
-    (omega arith, rw (those-more _ _ isWithdrawn read.entry_at.ensures gone.is-withdrawn.ensures, any-kept, c.has-read.ensures, old.loop.invariant.1))
+    (omega arith, rw (those_more _ _ is_withdrawn read.entry_at.ensures gone.is_withdrawn.ensures, any_kept, c.has_read.ensures, old.loop.invariant.1))
 
-returns : tie.Need-returns invariant-loop decreases-loop
+returns : tie.Need-returns invariant_loop decreases_loop
 returns c =
     let e : c.before.loop.k ≡ c.before.before.before.args.m = omega arith in
     rw e at c.before.loop.invariant.1
 
-pub is-among-spec : {M : Type 1} → statement M
-is-among-spec =
+pub is_among_spec : {M : Type 1} → statement M
+is_among_spec =
     tie.close
     (tie.spec
-    invariant-loop
-    decreases-loop
-    loop-holds
-    entry-at-requires
-    is-withdrawn-requires
-    has-read-requires
-    add-k
-    loop-less
-    loop-again
+    invariant_loop
+    decreases_loop
+    loop_holds
+    entry_at_requires
+    is_withdrawn_requires
+    has_read_requires
+    add_k
+    loop_less
+    loop_again
     returns)

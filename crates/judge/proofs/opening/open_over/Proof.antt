@@ -6,25 +6,25 @@ use Prim.Native.Nat.{ℕ, ◌+◌}
 use native.Mathlib.Omega.{arith}
 use borrow.Author.Tests.{eqb-true, not-false}
 use lib.Dec.{eqb}
-use Rattle.journal.specs.Journal.{isFlagged}
+use Rattle.journal.specs.Journal.{is_flagged}
 use Rattle.judge.specs.declared.limits.Limits.{Limits}
 use Rattle.judge.specs.Inner.Run.{run_of}
-use Rattle.judge.specs.Inner.Plain.{takesAll}
+use Rattle.judge.specs.Inner.Plain.{takes_all}
 use Rattle.judge.specs.Inner.Pass.{First}
-use Rattle.judge.proofs.Passes.{start-zero, starts_none, first_run, first-stands, starts_first}
+use Rattle.judge.proofs.Passes.{start_zero, starts_none, first_run, first_stands, starts_first}
 use Rattle.journal.proofs.Bools.{neither}
 use borrow.Author.Rules.{rules}
 use Rattle.judge.proofs.opening.open_over.Statement.{statement}
 use Rattle.judge.proofs.opening.open_over.Tie as tie
 
-start-pass-requires : tie.Need-start-pass-requires
-start-pass-requires c κs = search rules
+start_pass_requires : tie.Need-start-pass-requires
+start_pass_requires c κs = search rules
 
-takes-all-requires : tie.Need-takes-all-requires
-takes-all-requires c κs = search rules
+takes_all_requires : tie.Need-takes-all-requires
+takes_all_requires c κs = search rules
 
 returns : tie.Need-returns
-returns c = starts_none _ _ _ c.before.before.before.before.start-pass.ensures
+returns c = starts_none _ _ _ c.before.before.before.before.start_pass.ensures
 
 -- the most entries may follow, and the meter takes every type
 module _ (c : tie.Else1) where
@@ -40,24 +40,24 @@ module _ (c : tie.Else1) where
   both_hold : (not (eqb limits.most 50) ≡ false) × (not asked.takes_all.result ≡ false)
   both_hold = neither (not (eqb limits.most 50)) (not asked.takes_all.result) c.if1.false
 
-  most-is : limits.most ≡ 50
-  most-is = eqb-true _ 50 (not-false _ both_hold.0)
+  most_is : limits.most ≡ 50
+  most_is = eqb-true _ 50 (not-false _ both_hold.0)
 
-  takes_all : takesAll limits.head.profile ≡ true
+  takes_all : takes_all limits.head.profile ≡ true
   takes_all = sym asked.takes_all.ensures ∙ not-false _ both_hold.1
 
-entry-at-requires : tie.Need-entry-at-requires
-entry-at-requires c κs = omega (arith, most-is c, (started c).before.before.requires)
+entry_at_requires : tie.Need-entry-at-requires
+entry_at_requires c κs = omega (arith, most_is c, (started c).before.before.requires)
 
-is-first-requires : tie.Need-is-first-requires
-is-first-requires c κs = search rules
+is_first_requires : tie.Need-is-first-requires
+is_first_requires c κs = search rules
 
-returns-2 : tie.Need-returns-2
-returns-2 c = starts_none _ _ _ (started c.before.before.before).start-pass.ensures
+returns_2 : tie.Need-returns-2
+returns_2 c = starts_none _ _ _ (started c.before.before.before).start_pass.ensures
 
-stand-requires : tie.Need-stand-requires
-stand-requires c κs =
-    let zero = start-zero (started c.before.before.before).start-pass.ensures.0 in
+stand_requires : tie.Need-stand-requires
+stand_requires c κs =
+    let zero = start_zero (started c.before.before.before).start_pass.ensures.0 in
     (omega (arith, zero.0), omega (arith, zero.1))
 
 module _ (c : tie.After-stand) where
@@ -67,50 +67,50 @@ module _ (c : tie.After-stand) where
   abbrev here : tie.Else1
   here = first.before.before
 
-  none : (started here).start-pass.result.run ≡ run_of []
-  none = (started here).start-pass.ensures.0
+  none : (started here).start_pass.result.run ≡ run_of []
+  none = (started here).start_pass.ensures.0
 
   one : c.stand.result.count ≡ 1
-  one = c.stand.ensures.0 ∙ ap (λ (n : ℕ). n + 1) (start-zero none).0
+  one = c.stand.ensures.0 ∙ ap (λ (n : ℕ). n + 1) (start_zero none).0
 
-  is-first : First (limits here).limit first.before.entry_at.result
-  is-first = first.is-first.ensures (not-false _ c.before.if2.false)
+  is_first : First (limits here).limit first.before.entry_at.result
+  is_first = first.is_first.ensures (not-false _ c.before.if2.false)
 
   opened : c.stand.result ≡ run_of (first.before.entry_at.result ∷ [])
-  unfolding isFlagged
+  unfolding is_flagged
   opened =
-      c.stand.ensures.1 [] is-first.stands (rw is-first.flag (sym (start-zero none).2)) none
+      c.stand.ensures.1 [] is_first.stands (rw is_first.flag (sym (start_zero none).2)) none
 
-plain-over-requires : tie.Need-plain-over-requires
-plain-over-requires c κs =
+plain_over_requires : tie.Need-plain-over-requires
+plain_over_requires c κs =
     let l = limits (here c) in
     let read = (first c).before.entry_at.ensures in
-    ((started (here c)).before.before.pre, omega (arith, one c, most-is (here c)), first_run _ l read _ (one c) (opened c), first-stands _ l read _ (one c) (opened c) (is-first c).stands)
+    ((started (here c)).before.before.pre, omega (arith, one c, most_is (here c)), first_run _ l read _ (one c) (opened c), first_stands _ l read _ (one c) (opened c) (is_first c).stands)
 
-returns-3 : tie.Need-returns-3
-returns-3 c =
+returns_3 : tie.Need-returns-3
+returns_3 c =
     let at = c.before in
     starts_first
     _
     _
     (first at).before.entry_at.ensures
     (takes_all (here at))
-    (is-first at)
-    (omega (arith, most-is (here at)))
+    (is_first at)
+    (omega (arith, most_is (here at)))
     (one at)
     c.plain_over_lem.ensures.runs
     c.plain_over_lem.ensures.none
 
-pub open-over-spec : {M : Type 1} → statement M
-open-over-spec =
+pub open_over_spec : {M : Type 1} → statement M
+open_over_spec =
     tie.close
     (tie.spec
-    start-pass-requires
-    takes-all-requires
+    start_pass_requires
+    takes_all_requires
     returns
-    entry-at-requires
-    is-first-requires
-    returns-2
-    stand-requires
-    plain-over-requires
-    returns-3)
+    entry_at_requires
+    is_first_requires
+    returns_2
+    stand_requires
+    plain_over_requires
+    returns_3)

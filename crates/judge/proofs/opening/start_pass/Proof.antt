@@ -1,17 +1,17 @@
 use Rattle.terms.specs.Entry.{those, slot_at}
-use Rattle.journal.specs.Journal.{held_of, isThere, firstValue}
-use Rattle.journal.specs.Sound.{every, any, daysRise, opensRight, hasOneFinal, isHeldRight, areInOrder}
-use Rattle.judge.specs.Inner.Pass.{passOf}
+use Rattle.journal.specs.Journal.{held_of, is_there, first_value}
+use Rattle.journal.specs.Sound.{every, any, days_rise, opens_right, has_one_final, is_held_right, are_in_order}
+use Rattle.judge.specs.Inner.Pass.{pass_of}
 use borrow.Author.Rules.{rules}
 use Rattle.judge.proofs.opening.start_pass.Statement.{statement}
 use Rattle.judge.proofs.opening.start_pass.Tie as tie
 
-start-run-requires : tie.Need-start-run-requires
-start-run-requires c κs = search rules
+start_run_requires : tie.Need-start-run-requires
+start_run_requires c κs = search rules
 
 returns : tie.Need-returns
-unfolding passOf areInOrder every any daysRise opensRight hasOneFinal isHeldRight those slot_at held_of isThere firstValue
-returns c = (c.start-run.ensures, λ head. rw c.start-run.ensures)
+unfolding pass_of are_in_order every any days_rise opens_right has_one_final is_held_right those slot_at held_of is_there first_value
+returns c = (c.start_run.ensures, λ head. rw c.start_run.ensures)
 
-pub start-pass-spec : {M : Type 1} → statement M
-start-pass-spec = tie.close (tie.spec start-run-requires returns)
+pub start_pass_spec : {M : Type 1} → statement M
+start_pass_spec = tie.close (tie.spec start_run_requires returns)

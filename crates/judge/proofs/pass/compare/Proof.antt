@@ -1,18 +1,18 @@
 -- A withdrawn entry is put into the index, and is clear if it is later than all that stand; a standing one is as its bucket says.
 use mathlib.Core.Path.{sym, ◌∙◌}
 use borrow.Author.Tests.{ltb-true, not-true, not-false}
-use Rattle.judge.proofs.Clashes.{stands-unwithdrawn, free-standing, free-withdrawn, free_other}
-use Rattle.judge.proofs.Indexes.{indexed-pass, indexed-put, none-indexed}
-use Rattle.judge.proofs.Runs.{run-day}
+use Rattle.judge.proofs.Clashes.{stands_unwithdrawn, free_standing, free_withdrawn, free_other}
+use Rattle.judge.proofs.Indexes.{indexed_pass, indexed_put, none_indexed}
+use Rattle.judge.proofs.Runs.{run_day}
 use borrow.Author.Rules.{rules}
 use Rattle.judge.proofs.pass.compare.Statement.{statement}
 use Rattle.judge.proofs.pass.compare.Tie as tie
 
-is-withdrawn-requires : tie.Need-is-withdrawn-requires
-is-withdrawn-requires c κs = search rules
+is_withdrawn_requires : tie.Need-is-withdrawn-requires
+is_withdrawn_requires c κs = search rules
 
-put-requires : tie.Need-put-requires
-put-requires c κs = search rules
+put_requires : tie.Need-put-requires
+put_requires c κs = search rules
 
 returns : tie.Need-returns
 returns c =
@@ -21,56 +21,56 @@ returns c =
     let start = w.before.before in
     let run = start.args.run in
     let e = start.args.e in
-    let gone = sym w.is-withdrawn.ensures ∙ put.before.before.if1.true in (
-      λ h is rises. free-withdrawn e _ gone rises (rw (run-day _ is) at (ltb-true run.day e.day h)),
-      rw put.put.ensures (indexed-put _ _ _ start.requires.1 start.requires.0.2),
+    let gone = sym w.is_withdrawn.ensures ∙ put.before.before.if1.true in (
+      λ h is rises. free_withdrawn e _ gone rises (rw (run_day _ is) at (ltb-true run.day e.day h)),
+      rw put.put.ensures (indexed_put _ _ _ start.requires.1 start.requires.0.2),
     )
 
-is-standing-requires : tie.Need-is-standing-requires
-is-standing-requires c κs = search rules
+is_standing_requires : tie.Need-is-standing-requires
+is_standing_requires c κs = search rules
 
-returns-2 : tie.Need-returns-2
-returns-2 c =
+returns_2 : tie.Need-returns-2
+returns_2 c =
     let s = c.before in
     let w = s.before.before in
     let start = w.before.before in
-    let stays = sym w.is-withdrawn.ensures ∙ s.before.if1.false in
-    (λ h is rises. free_other start.args.e _ (sym s.is-standing.ensures ∙ not-true _ c.if2.true) stays, indexed-pass _ _ _ start.requires.1 start.requires.0.2 stays)
+    let stays = sym w.is_withdrawn.ensures ∙ s.before.if1.false in
+    (λ h is rises. free_other start.args.e _ (sym s.is_standing.ensures ∙ not-true _ c.if2.true) stays, indexed_pass _ _ _ start.requires.1 start.requires.0.2 stays)
 
-bucket-of-requires : tie.Need-bucket-of-requires
-bucket-of-requires c κs = search rules
+bucket_of_requires : tie.Need-bucket-of-requires
+bucket_of_requires c κs = search rules
 
-cast-at : tie.Need-overflow-cast-at
-cast-at c = search rules
+cast_at : tie.Need-overflow-cast-at
+cast_at c = search rules
 
-element-copy-out-there : tie.Need-element-copy-out-there
-element-copy-out-there c = search rules
+element_copy_out_there : tie.Need-element-copy-out-there
+element_copy_out_there c = search rules
 
-is-clear-requires : tie.Need-is-clear-requires
-is-clear-requires c κs = search rules
+is_clear_requires : tie.Need-is-clear-requires
+is_clear_requires c κs = search rules
 
-returns-3 : tie.Need-returns-3
-returns-3 c =
+returns_3 : tie.Need-returns-3
+returns_3 c =
     let bucket = c.before.before in
     let s = bucket.before.before in
     let w = s.before.before in
     let start = w.before.before in
-    let stands = sym s.is-standing.ensures ∙ not-false _ bucket.before.if2.false in (
-      λ h is rises. free-standing start.args.e _ stands (none-indexed _ _ _ start.requires.1 (rw bucket.bucket-of.ensures at (c.is-clear.ensures h))),
-      indexed-pass _ _ _ start.requires.1 start.requires.0.2 (stands-unwithdrawn _ stands),
+    let stands = sym s.is_standing.ensures ∙ not-false _ bucket.before.if2.false in (
+      λ h is rises. free_standing start.args.e _ stands (none_indexed _ _ _ start.requires.1 (rw bucket.bucket_of.ensures at (c.is_clear.ensures h))),
+      indexed_pass _ _ _ start.requires.1 start.requires.0.2 (stands_unwithdrawn _ stands),
     )
 
-pub compare-spec : {M : Type 1} → statement M
-compare-spec =
+pub compare_spec : {M : Type 1} → statement M
+compare_spec =
     tie.close
     (tie.spec
-    is-withdrawn-requires
-    put-requires
+    is_withdrawn_requires
+    put_requires
     returns
-    is-standing-requires
-    returns-2
-    bucket-of-requires
-    cast-at
-    element-copy-out-there
-    is-clear-requires
-    returns-3)
+    is_standing_requires
+    returns_2
+    bucket_of_requires
+    cast_at
+    element_copy_out_there
+    is_clear_requires
+    returns_3)

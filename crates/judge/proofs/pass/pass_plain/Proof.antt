@@ -3,21 +3,21 @@ use mathlib.Core.Path.{◌≡◌, sym, ◌∙◌}
 use mathlib.Core.Bool.{true, false}
 use native.Mathlib.Omega.{arith}
 use borrow.Author.Tests.{eqb-false, not-false}
-use Rattle.judge.specs.Inner.Plain.{takesAll}
-use Rattle.judge.proofs.Passes.{pass-open, open-pass, is_all}
+use Rattle.judge.specs.Inner.Plain.{takes_all}
+use Rattle.judge.proofs.Passes.{pass_open, open_pass, is_all}
 use Rattle.journal.proofs.Bools.{neither}
 use borrow.Author.Rules.{rules}
 use Rattle.judge.proofs.pass.pass_plain.Statement.{statement}
 use Rattle.judge.proofs.pass.pass_plain.Tie as tie
 
-takes-all-requires : tie.Need-takes-all-requires
-takes-all-requires c κs = search rules
+takes_all_requires : tie.Need-takes-all-requires
+takes_all_requires c κs = search rules
 
 returns : tie.Need-returns
 returns c = search rules
 
-returns-2 : tie.Need-returns-2
-returns-2 c = search rules
+returns_2 : tie.Need-returns-2
+returns_2 c = search rules
 
 module _ (c : tie.Else2) where
   abbrev all : tie.Else1
@@ -26,7 +26,7 @@ module _ (c : tie.Else2) where
   abbrev start : tie.Start
   start = all.before.before.before.before
 
-  takes_all : takesAll start.args.limits.head.profile ≡ true
+  takes_all : takes_all start.args.limits.head.profile ≡ true
   takes_all = sym all.before.takes_all.ensures ∙ not-false _ all.if1.left
 
   -- none is held, and a read stands
@@ -36,20 +36,20 @@ module _ (c : tie.Else2) where
   some : start.args.pass.run.standing ≡ 0 → ⊥
   some = eqb-false start.args.pass.run.standing 0 (neither start.args.pass.held _ c.if2.false).1
 
-plain-over-requires : tie.Need-plain-over-requires
-plain-over-requires c κs =
+plain_over_requires : tie.Need-plain-over-requires
+plain_over_requires c κs =
     let from = (start c).requires.0 in
     (from.0, from.1, from.2, some c)
 
-run-over-requires : tie.Need-run-over-requires
-run-over-requires c κs =
+run_over_requires : tie.Need-run-over-requires
+run_over_requires c κs =
     let plain = c.before.plain_over_lem.ensures in
     let from = (start c.before.before).pre in
     ((from.0.0, plain.runs.few, plain.runs.run_is, plain.some), plain.indexed _ from.1)
 
-returns-3 : tie.Need-returns-3
-returns-3 c =
-    let run = c.run-over.ensures in
+returns_3 : tie.Need-returns-3
+returns_3 c =
+    let run = c.run_over.ensures in
     let plain = c.before.before.plain_over_lem.ensures in
     let here = c.before.before.before in
     let p = (start here).args.pass in (
@@ -58,12 +58,12 @@ returns-3 c =
         few = run.0.few;
         goes = plain.runs.goes ∙ run.0.goes;
         run_is = run.0.run_is;
-        pass = λ head limits is. open-pass _ run.0.run_is (let all = is_all (takes_all here) limits in run.0.opened head p.ended p.apart all (plain.runs.opened head p.ended p.apart all (pass-open p is (some here) (unheld here))));
+        pass = λ head limits is. open_pass _ run.0.run_is (let all = is_all (takes_all here) limits in run.0.opened head p.ended p.apart all (plain.runs.opened head p.ended p.apart all (pass_open p is (some here) (unheld here))));
       },
       run.1,
     )
 
-pub pass-plain-spec : {M : Type 1} → statement M
-pass-plain-spec =
+pub pass_plain_spec : {M : Type 1} → statement M
+pass_plain_spec =
     tie.close
-    (tie.spec takes-all-requires returns returns-2 plain-over-requires run-over-requires returns-3)
+    (tie.spec takes_all_requires returns returns_2 plain_over_requires run_over_requires returns_3)

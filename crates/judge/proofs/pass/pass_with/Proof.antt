@@ -1,24 +1,24 @@
 -- What one more entry changes is `pass-more`.
 use mathlib.Core.Path.{refl}
-use Rattle.judge.proofs.Passes.{pass-more, pass-run}
+use Rattle.judge.proofs.Passes.{pass_more, pass_run}
 use borrow.Author.Rules.{rules}
 use Rattle.judge.proofs.pass.pass_with.Statement.{statement}
 use Rattle.judge.proofs.pass.pass_with.Tie as tie
 
-may-follow-requires : tie.Need-may-follow-requires
-may-follow-requires c κs = search rules
+may_follow_requires : tie.Need-may-follow-requires
+may_follow_requires c κs = search rules
 
-is-standing-requires : tie.Need-is-standing-requires
-is-standing-requires c κs = search rules
+is_standing_requires : tie.Need-is-standing-requires
+is_standing_requires c κs = search rules
 
-count-requires : tie.Need-count-requires
-count-requires c κs = search rules
+count_requires : tie.Need-count-requires
+count_requires c κs = search rules
 
-is-held-requires : tie.Need-is-held-requires
-is-held-requires c κs = search rules
+is_held_requires : tie.Need-is-held-requires
+is_held_requires c κs = search rules
 
-is-final-requires : tie.Need-is-final-requires
-is-final-requires c κs = search rules
+is_final_requires : tie.Need-is-final-requires
+is_final_requires c κs = search rules
 
 returns : tie.Need-returns
 returns c =
@@ -30,24 +30,24 @@ returns c =
       refl,
       λ es h. counted.count.ensures es h,
       λ head es l h. rw (
-        pass-more head follow.before.before.before.args.pass.apart,
+        pass_more head follow.before.before.before.args.pass.apart,
         ← h,
-        counted.count.ensures es (pass-run head _ es h),
-        follow.may-follow.ensures (rw l.head-is l.limit),
-        l.head-is,
-        s.is-standing.ensures,
+        counted.count.ensures es (pass_run head _ es h),
+        follow.may_follow.ensures (rw l.head_is l.limit),
+        l.head_is,
+        s.is_standing.ensures,
         held.is_held_lem.ensures,
-        final.is-final.ensures,
+        final.is_final.ensures,
       ),
     )
 
-pub pass-with-spec : {M : Type 1} → statement M
-pass-with-spec =
+pub pass_with_spec : {M : Type 1} → statement M
+pass_with_spec =
     tie.close
     (tie.spec
-    may-follow-requires
-    is-standing-requires
-    count-requires
-    is-held-requires
-    is-final-requires
+    may_follow_requires
+    is_standing_requires
+    count_requires
+    is_held_requires
+    is_final_requires
     returns)

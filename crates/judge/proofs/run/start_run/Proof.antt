@@ -1,13 +1,13 @@
 use mathlib.Core.Path.{refl}
 use Rattle.terms.specs.Entry.{those, slot_at}
-use Rattle.journal.specs.Journal.{firstValue, newestAt, dayOf}
+use Rattle.journal.specs.Journal.{first_value, newest_at, day_of}
 use Rattle.judge.specs.Inner.Run.{run_of}
 use Rattle.judge.proofs.run.start_run.Statement.{statement}
 use Rattle.judge.proofs.run.start_run.Tie as tie
 
 returns : tie.Need-returns
-unfolding run_of those slot_at firstValue newestAt dayOf
+unfolding run_of those slot_at first_value newest_at day_of
 returns c = refl
 
-pub start-run-spec : {M : Type 1} → statement M
-start-run-spec = tie.close (tie.spec returns)
+pub start_run_spec : {M : Type 1} → statement M
+start_run_spec = tie.close (tie.spec returns)

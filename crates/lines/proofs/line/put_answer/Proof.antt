@@ -3,38 +3,38 @@ use mir.Syntax.{w64}
 use mir.Val.{SFits}
 use mir.ValLaws.{to_z-of_z}
 use Rattle.lines.specs.Line.{line_of}
-use Rattle.lines.proofs.Pasted.{put_both, room-first, room-rest}
+use Rattle.lines.proofs.Pasted.{put_both, room_first, room_rest}
 use borrow.Author.Rules.{rules}
 use Rattle.lines.proofs.line.put_answer.Statement.{statement}
 use Rattle.lines.proofs.line.put_answer.Tie as tie
 
 -- a signed field comes to the callee as its bits, which read as the field again if it fits
-advance-fits : (c : tie.After-struct-told) → SFits w64 c.before.before.before.before.before.before.before.before.before.before.before.before.before.args.a.advance
-advance-fits c = search rules
+advance_fits : (c : tie.After-struct-told) → SFits w64 c.before.before.before.before.before.before.before.before.before.before.before.before.before.args.a.advance
+advance_fits c = search rules
 
-cast-put-field : tie.Need-overflow-cast-put-field
-cast-put-field c = search rules
+cast_put_field : tie.Need-overflow-cast-put-field
+cast_put_field c = search rules
 
-put-field-requires : tie.Need-put-field-requires
+put_field_requires : tie.Need-put-field-requires
 unfolding line_of
-put-field-requires c κs = room-first _ _ c.before.before.before.requires
+put_field_requires c κs = room_first _ _ c.before.before.before.requires
 
-cast-put-field-2 : tie.Need-overflow-cast-put-field-2
-cast-put-field-2 c = search rules
+cast_put_field_2 : tie.Need-overflow-cast-put-field-2
+cast_put_field_2 c = search rules
 
-put-field-requires-2 : tie.Need-put-field-requires-2
+put_field_requires_2 : tie.Need-put-field-requires-2
 unfolding line_of
-put-field-requires-2 c κs =
+put_field_requires_2 c κs =
     let first = c.before.before.before.before in
-    room-first _ _ (room-rest first.put-field.ensures first.before.before.before.before.requires)
+    room_first _ _ (room_rest first.put_field.ensures first.before.before.before.before.requires)
 
-put-last-requires : tie.Need-put-last-requires
+put_last_requires : tie.Need-put-last-requires
 unfolding line_of
-put-last-requires c κs =
+put_last_requires c κs =
     let second = c.before.before.before.before in
     let first = second.before.before.before.before.before in
     let start = first.before.before.before.before in
-    rw (to_z-of_z w64 start.args.a.advance (advance-fits c)) (room-rest second.put-field2.ensures (room-rest first.put-field.ensures start.requires))
+    rw (to_z-of_z w64 start.args.a.advance (advance_fits c)) (room_rest second.put_field2.ensures (room_rest first.put_field.ensures start.requires))
 
 same_length : tie.Need-same-length
 same_length c = search rules
@@ -46,16 +46,16 @@ returns c =
     let second = last.before.before.before.before.before in
     let first = second.before.before.before.before.before in
     let start = first.before.before.before.before in
-    put_both first.put-field.ensures (put_both second.put-field2.ensures (rw (to_z-of_z w64 start.args.a.advance (advance-fits last.before)) at last.put_last.ensures))
+    put_both first.put_field.ensures (put_both second.put_field2.ensures (rw (to_z-of_z w64 start.args.a.advance (advance_fits last.before)) at last.put_last.ensures))
 
-pub put-answer-spec : {M : Type 1} → statement M
-put-answer-spec =
+pub put_answer_spec : {M : Type 1} → statement M
+put_answer_spec =
     tie.close
     (tie.spec
-    cast-put-field
-    put-field-requires
-    cast-put-field-2
-    put-field-requires-2
-    put-last-requires
+    cast_put_field
+    put_field_requires
+    cast_put_field_2
+    put_field_requires_2
+    put_last_requires
     same_length
     returns)

@@ -2,40 +2,40 @@
 use native.Mathlib.Omega.{arith}
 use mir.Syntax.{w64}
 use mir.ValLaws.{to_z-of_z}
-use Rattle.lines.specs.Line.{lastField}
+use Rattle.lines.specs.Line.{last_field}
 use Rattle.lines.specs.Decimal.{signed}
 use Rattle.lines.specs.Put.{Put}
-use Rattle.lines.proofs.Pasted.{put-more, room-first, room-more}
+use Rattle.lines.proofs.Pasted.{put_more, room_first, room_more}
 use borrow.Author.Rules.{rules}
 use Rattle.lines.proofs.line.put_last.Statement.{statement}
 use Rattle.lines.proofs.line.put_last.Tie as tie
 
 -- a signed argument comes to the callee as its bits, read again
-number : (c : tie.After-put-signed) → Put c.before.before.before.args.out.now c.before.before.before.args.at (signed c.before.before.before.args.n) c.put-signed.new.0 c.put-signed.result
-number c = rw (to_z-of_z w64 c.before.before.before.args.n c.before.before.before.ranges.n) at c.put-signed.ensures
+number : (c : tie.After-put-signed) → Put c.before.before.before.args.out.now c.before.before.before.args.at (signed c.before.before.before.args.n) c.put_signed.new.0 c.put_signed.result
+number c = rw (to_z-of_z w64 c.before.before.before.args.n c.before.before.before.ranges.n) at c.put_signed.ensures
 
-put-signed-requires : tie.Need-put-signed-requires
-unfolding lastField
-put-signed-requires c κs =
+put_signed_requires : tie.Need-put-signed-requires
+unfolding last_field
+put_signed_requires c κs =
     let start = c.before.before in
-    rw (to_z-of_z w64 start.args.n start.ranges.n) (room-first (signed start.args.n) _ start.requires)
+    rw (to_z-of_z w64 start.args.n start.ranges.n) (room_first (signed start.args.n) _ start.requires)
 
-put-byte-requires : tie.Need-put-byte-requires
-put-byte-requires c κs = search rules
+put_byte_requires : tie.Need-put-byte-requires
+put_byte_requires c κs = search rules
 
-add-result : tie.Need-overflow-add-result
-unfolding lastField
-add-result c =
+add_result : tie.Need-overflow-add-result
+unfolding last_field
+add_result c =
     let put = c.before.before.before.before.before.before in
-    omega (arith, (number put).ends, room-more (signed put.before.before.before.args.n) 10 put.before.before.before.requires)
+    omega (arith, (number put).ends, room_more (signed put.before.before.before.args.n) 10 put.before.before.before.requires)
 
 same_length : tie.Need-same-length
 same_length c = search rules
 
 returns : tie.Need-returns
-unfolding lastField
-returns c = put-more (number c.before.before.before.before.before.before) _ c.before.before.put_byte.ensures
+unfolding last_field
+returns c = put_more (number c.before.before.before.before.before.before) _ c.before.before.put_byte.ensures
 
-pub put-last-spec : {M : Type 1} → statement M
-put-last-spec =
-    tie.close (tie.spec put-signed-requires put-byte-requires add-result same_length returns)
+pub put_last_spec : {M : Type 1} → statement M
+put_last_spec =
+    tie.close (tie.spec put_signed_requires put_byte_requires add_result same_length returns)

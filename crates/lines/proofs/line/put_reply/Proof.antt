@@ -1,21 +1,21 @@
 -- The line of a reply is that of the answer or the report that it holds, and there is room for it after any position of 32 bits.
 use native.Mathlib.Omega.{arith}
-use Rattle.lines.proofs.Lengths.{line-room}
+use Rattle.lines.proofs.Lengths.{line_room}
 use borrow.Author.Rules.{rules}
 use Rattle.lines.proofs.line.put_reply.Statement.{statement}
 use Rattle.lines.proofs.line.put_reply.Tie as tie
 
-enum-known-reply : tie.Need-enum-known-reply
-enum-known-reply c = search rules
+enum_known_reply : tie.Need-enum-known-reply
+enum_known_reply c = search rules
 
-put-answer-requires : tie.Need-put-answer-requires
-put-answer-requires c κs = line-room _ _ (omega arith)
+put_answer_requires : tie.Need-put-answer-requires
+put_answer_requires c κs = line_room _ _ (omega arith)
 
-enum-known-reply-2 : tie.Need-enum-known-reply-2
-enum-known-reply-2 c = search rules
+enum_known_reply_2 : tie.Need-enum-known-reply-2
+enum_known_reply_2 c = search rules
 
-put-report-requires : tie.Need-put-report-requires
-put-report-requires c κs = line-room _ _ (omega arith)
+put_report_requires : tie.Need-put-report-requires
+put_report_requires c κs = line_room _ _ (omega arith)
 
 same_length : tie.Need-same-length
 same_length c = search rules
@@ -23,25 +23,25 @@ same_length c = search rules
 returns : tie.Need-returns
 returns c =
     let put = c.before.before in
-    rw put.before.before.before.reply.given.1 put.put-answer.ensures
+    rw put.before.before.before.reply.given.1 put.put_answer.ensures
 
-same-length-2 : tie.Need-same-length-2
-same-length-2 c = search rules
+same_length_2 : tie.Need-same-length-2
+same_length_2 c = search rules
 
-returns-2 : tie.Need-returns-2
-returns-2 c =
+returns_2 : tie.Need-returns-2
+returns_2 c =
     let put = c.before.before in
-    rw put.before.before.before.reply2.given.1 put.put-report.ensures
+    rw put.before.before.before.reply2.given.1 put.put_report.ensures
 
-pub put-reply-spec : {M : Type 1} → statement M
-put-reply-spec =
+pub put_reply_spec : {M : Type 1} → statement M
+put_reply_spec =
     tie.close
     (tie.spec
-    enum-known-reply
-    put-answer-requires
-    enum-known-reply-2
-    put-report-requires
+    enum_known_reply
+    put_answer_requires
+    enum_known_reply_2
+    put_report_requires
     same_length
     returns
-    same-length-2
-    returns-2)
+    same_length_2
+    returns_2)

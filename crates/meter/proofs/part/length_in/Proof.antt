@@ -1,65 +1,65 @@
 -- The judgement of the area decides the definition's checks, and counts the journal's entries.
 use mathlib.Core.Path.{sym, ◌∙◌}
 use mathlib.Core.List.{[]}
-use Rattle.register.specs.Head.{entryOffset}
-use Rattle.journal.specs.Journal.{journalOf}
-use Rattle.judge.specs.Inner.Judged.{summaryOf}
-use Rattle.journal.proofs.Entries.{length-entries}
-use Rattle.calls.specs.Checks.{reportChecks}
-use Rattle.calls.specs.Calls.{lengthIn}
-use Rattle.meter.proofs.Judged.{zero_number, damaged-number, sound-number}
+use Rattle.register.specs.Head.{entry_offset}
+use Rattle.journal.specs.Journal.{journal_of}
+use Rattle.judge.specs.Inner.Judged.{summary_of}
+use Rattle.journal.proofs.Entries.{length_entries}
+use Rattle.calls.specs.Checks.{report_checks}
+use Rattle.calls.specs.Calls.{length_in}
+use Rattle.meter.proofs.Judged.{zero_number, damaged_number, sound_number}
 use borrow.Author.Rules.{rules}
 use Rattle.meter.proofs.part.length_in.Statement.{statement}
 use Rattle.meter.proofs.part.length_in.Tie as tie
 
-judge-area-requires : tie.Need-judge-area-requires
-judge-area-requires c κs = search rules
+judge_area_requires : tie.Need-judge-area-requires
+judge_area_requires c κs = search rules
 
 enum_told : tie.Need-enum-told
 enum_told c = search rules
 
-enum-told-2 : tie.Need-enum-told-2
-enum-told-2 c = search rules
+enum_told_2 : tie.Need-enum-told-2
+enum_told_2 c = search rules
 
-enum-known-found : tie.Need-enum-known-found
-enum-known-found c = search rules
+enum_known_found : tie.Need-enum-known-found
+enum_known_found c = search rules
 
-offset-after-requires : tie.Need-offset-after-requires
-offset-after-requires c κs = search rules
+offset_after_requires : tie.Need-offset-after-requires
+offset_after_requires c κs = search rules
 
-cast-result : tie.Need-overflow-cast-result
-cast-result c = search rules
+cast_result : tie.Need-overflow-cast-result
+cast_result c = search rules
 
 returns : tie.Need-returns
-unfolding lengthIn reportChecks
+unfolding length_in report_checks
 returns c =
     let d = c.before.before in
-    rw (zero_number (λ j. []) _ d.before.before.requires (sym d.judge-area.ensures.0.found-is ∙ c.enum_told.given.1))
+    rw (zero_number (λ j. []) _ d.before.before.requires (sym d.judge_area.ensures.0.found_is ∙ c.enum_told.given.1))
 
-returns-2 : tie.Need-returns-2
-unfolding lengthIn reportChecks
-returns-2 c =
+returns_2 : tie.Need-returns-2
+unfolding length_in report_checks
+returns_2 c =
     let d = c.before.before in
-    rw (damaged-number (λ j. []) _ d.before.before.requires (sym d.judge-area.ensures.0.found-is ∙ c.enum-told2.given.1))
+    rw (damaged_number (λ j. []) _ d.before.before.requires (sym d.judge_area.ensures.0.found_is ∙ c.enum_told2.given.1))
 
-returns-3 : tie.Need-returns-3
-unfolding lengthIn reportChecks summaryOf journalOf entryOffset
-returns-3 c =
+returns_3 : tie.Need-returns-3
+unfolding length_in report_checks summary_of journal_of entry_offset
+returns_3 c =
     let t = c.before.before.before in
     let d = t.before.before in
-    let sound = sound-number (λ j. []) _ d.before.before.requires (sym d.judge-area.ensures.0.found-is ∙ t.found.given.1) in
-    rw (c.offset-after.ensures, sound.1, sound.0.summary, length-entries)
+    let sound = sound_number (λ j. []) _ d.before.before.requires (sym d.judge_area.ensures.0.found_is ∙ t.found.given.1) in
+    rw (c.offset_after.ensures, sound.1, sound.0.summary, length_entries)
 
-pub length-in-spec : {M : Type 1} → statement M
-length-in-spec =
+pub length_in_spec : {M : Type 1} → statement M
+length_in_spec =
     tie.close
     (tie.spec
-    judge-area-requires
+    judge_area_requires
     enum_told
-    enum-told-2
-    enum-known-found
-    offset-after-requires
-    cast-result
+    enum_told_2
+    enum_known_found
+    offset_after_requires
+    cast_result
     returns
-    returns-2
-    returns-3)
+    returns_2
+    returns_3)

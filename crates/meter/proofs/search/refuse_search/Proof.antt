@@ -5,5 +5,5 @@ use Rattle.meter.proofs.search.refuse_search.Tie as tie
 returns : tie.Need-returns
 returns c = refl
 
-pub refuse-search-spec : {M : Type 1} → statement M
-refuse-search-spec = tie.close (tie.spec returns)
+pub refuse_search_spec : {M : Type 1} → statement M
+refuse_search_spec = tie.close (tie.spec returns)

@@ -1,13 +1,13 @@
 -- The judgement decides the first two checks, and `check_withdrawal` the others.
 use mathlib.Core.Path.{◌≡◌, sym, ap, ◌∙◌}
 use borrow.Author.Tests.{ne_eqb}
-use Rattle.terms.specs.Rule.{firstBroken}
-use Rattle.journal.specs.Journal.{journalOf}
+use Rattle.terms.specs.Rule.{first_broken}
+use Rattle.journal.specs.Journal.{journal_of}
 use Rattle.judge.specs.Inner.Judged.{Counted}
 use Rattle.meter.specs.declared.withdraw.Decided.TheVariants.{Taken}
-use Rattle.calls.specs.Checks.{withdrawRules, withdrawChecks}
-use Rattle.meter.specs.Inner.Withdrawal.{withdrawDecided}
-use Rattle.meter.proofs.Judged.{zero_number, damaged-number, sound-number}
+use Rattle.calls.specs.Checks.{withdraw_rules, withdraw_checks}
+use Rattle.meter.specs.Inner.Withdrawal.{withdraw_decided}
+use Rattle.meter.proofs.Judged.{zero_number, damaged_number, sound_number}
 use Rattle.meter.proofs.Decided.{decides}
 use borrow.Author.Rules.{rules}
 use Rattle.meter.proofs.withdraw.decide_withdrawal.Statement.{statement}
@@ -18,63 +18,63 @@ module _ (c : tie.After-found) where
   abbrev start : tie.Start
   start = c.before.before.before.before
 
-  sound : Counted start.args.area.now c.found.given.0.0 × (firstBroken (withdrawChecks start.args.day start.args.value start.args.area.now) ≡ firstBroken (withdrawRules start.args.day start.args.value (journalOf start.args.area.now)))
-  unfolding withdrawChecks
+  sound : Counted start.args.area.now c.found.given.0.0 × (first_broken (withdraw_checks start.args.day start.args.value start.args.area.now) ≡ first_broken (withdraw_rules start.args.day start.args.value (journal_of start.args.area.now)))
+  unfolding withdraw_checks
   sound =
-      sound-number (withdrawRules start.args.day start.args.value) _ start.pre (sym c.before.before.judge-area.ensures.0.found-is ∙ c.found.given.1)
+      sound_number (withdraw_rules start.args.day start.args.value) _ start.pre (sym c.before.before.judge_area.ensures.0.found_is ∙ c.found.given.1)
 
-judge-area-requires : tie.Need-judge-area-requires
-judge-area-requires c κs = search rules
+judge_area_requires : tie.Need-judge-area-requires
+judge_area_requires c κs = search rules
 
 enum_told : tie.Need-enum-told
 enum_told c = search rules
 
-enum-told-2 : tie.Need-enum-told-2
-enum-told-2 c = search rules
+enum_told_2 : tie.Need-enum-told-2
+enum_told_2 c = search rules
 
-enum-known-found : tie.Need-enum-known-found
-enum-known-found c = search rules
+enum_known_found : tie.Need-enum-known-found
+enum_known_found c = search rules
 
-check-withdrawal-requires : tie.Need-check-withdrawal-requires
-check-withdrawal-requires c κs = (sound c.before).0
+check_withdrawal_requires : tie.Need-check-withdrawal-requires
+check_withdrawal_requires c κs = (sound c.before).0
 
-number_is : (c : tie.After-check-withdrawal) → let s = (start c.before.before).args in firstBroken (withdrawChecks s.day s.value s.area.now) ≡ c.check-withdrawal.result
-number_is c = (sound c.before.before).1 ∙ sym c.check-withdrawal.ensures
+number_is : (c : tie.After-check-withdrawal) → let s = (start c.before.before).args in first_broken (withdraw_checks s.day s.value s.area.now) ≡ c.check_withdrawal.result
+number_is c = (sound c.before.before).1 ∙ sym c.check_withdrawal.ensures
 
 returns : tie.Need-returns
-unfolding withdrawDecided
+unfolding withdraw_decided
 returns c = decides _ _ _ (rw (number_is c.before, ne_eqb _ _ c.if1.true))
 
-returns-2 : tie.Need-returns-2
-unfolding withdrawDecided withdrawChecks
-returns-2 c =
+returns_2 : tie.Need-returns-2
+unfolding withdraw_decided withdraw_checks
+returns_2 c =
     let d = c.before.before in
     let start = d.before.before in
-    decides _ _ _ (rw (zero_number (withdrawRules start.args.day start.args.value) _ start.requires (sym d.judge-area.ensures.0.found-is ∙ c.enum_told.given.1)))
+    decides _ _ _ (rw (zero_number (withdraw_rules start.args.day start.args.value) _ start.requires (sym d.judge_area.ensures.0.found_is ∙ c.enum_told.given.1)))
 
-returns-3 : tie.Need-returns-3
-unfolding withdrawDecided withdrawChecks
-returns-3 c =
+returns_3 : tie.Need-returns-3
+unfolding withdraw_decided withdraw_checks
+returns_3 c =
     let d = c.before.before in
     let start = d.before.before in
-    decides _ _ _ (rw (damaged-number (withdrawRules start.args.day start.args.value) _ start.requires (sym d.judge-area.ensures.0.found-is ∙ c.enum-told2.given.1)))
+    decides _ _ _ (rw (damaged_number (withdraw_rules start.args.day start.args.value) _ start.requires (sym d.judge_area.ensures.0.found_is ∙ c.enum_told2.given.1)))
 
-returns-4 : tie.Need-returns-4
-unfolding withdrawDecided
-returns-4 c =
+returns_4 : tie.Need-returns-4
+unfolding withdraw_decided
+returns_4 c =
     let number = c.before in
     decides _ _ _ (rw (number_is number, c.if1.false) (ap Taken (sound number.before.before).0.summary))
 
-pub decide-withdrawal-spec : {M : Type 1} → statement M
-decide-withdrawal-spec =
+pub decide_withdrawal_spec : {M : Type 1} → statement M
+decide_withdrawal_spec =
     tie.close
     (tie.spec
-    judge-area-requires
+    judge_area_requires
     enum_told
-    enum-told-2
-    enum-known-found
-    check-withdrawal-requires
+    enum_told_2
+    enum_known_found
+    check_withdrawal_requires
     returns
-    returns-2
-    returns-3
-    returns-4)
+    returns_2
+    returns_3
+    returns_4)

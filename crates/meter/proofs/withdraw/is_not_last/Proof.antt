@@ -9,23 +9,23 @@ use lib.Dec.{eqb, ltb}
 use lib.ListN.{length}
 use Rattle.terms.specs.declared.entry.Entry.{Entry}
 use Rattle.terms.specs.Entry.{slot_at}
-use Rattle.journal.specs.Journal.{standing, dayOf}
-use Rattle.journal.specs.Sound.{hasRead}
-use Rattle.judge.specs.Inner.Judged.{countsOf, value_of, summaryOf}
-use Rattle.calls.specs.Checks.{isNotLast}
+use Rattle.journal.specs.Journal.{standing, day_of}
+use Rattle.journal.specs.Sound.{has_read}
+use Rattle.judge.specs.Inner.Judged.{counts_of, value_of, summary_of}
+use Rattle.calls.specs.Checks.{is_not_last}
 use Rattle.meter.proofs.withdraw.is_not_last.Statement.{statement}
 use Rattle.meter.proofs.withdraw.is_not_last.Tie as tie
 
-by_last : (day value : ℕ) (ss : List Entry) → not (ltb 0 (length ss) && (eqb (dayOf (slot_at ss 0)) day && eqb (value_of (slot_at ss 0)) value)) ≡ isNotLast day value (slot_at ss 0)
-unfolding slot_at dayOf value_of isNotLast hasRead
+by_last : (day value : ℕ) (ss : List Entry) → not (ltb 0 (length ss) && (eqb (day_of (slot_at ss 0)) day && eqb (value_of (slot_at ss 0)) value)) ≡ is_not_last day value (slot_at ss 0)
+unfolding slot_at day_of value_of is_not_last has_read
 by_last day value [] = refl
 by_last day value (s ∷ ss) =
     let some : 0 < length (s ∷ ss) = omega arith in
     rw (lt-ltb 0 (length (s ∷ ss)) some)
 
 returns : tie.Need-returns
-unfolding summaryOf countsOf
+unfolding summary_of counts_of
 returns c = λ j e. rw e (by_last _ _ (standing j.entries))
 
-pub is-not-last-spec : {M : Type 1} → statement M
-is-not-last-spec = tie.close (tie.spec returns)
+pub is_not_last_spec : {M : Type 1} → statement M
+is_not_last_spec = tie.close (tie.spec returns)

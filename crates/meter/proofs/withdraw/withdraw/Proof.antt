@@ -2,79 +2,79 @@
 use mathlib.Core.Path.{◌≡◌, sym, ◌∙◌}
 use native.Mathlib.Omega.{arith}
 use Rattle.calls.specs.declared.call.Call.TheVariants.{Withdraw}
-use Rattle.calls.specs.Calls.{act, place_of, refusalOf}
+use Rattle.calls.specs.Calls.{act, place_of, refusal_of}
 use Rattle.place.specs.declared.Located.TheVariants.{At}
 use Rattle.place.specs.Located.{located}
-use Rattle.place.proofs.Placed.{has-area, lent_length, refuses, writes}
+use Rattle.place.proofs.Placed.{has_area, lent_length, refuses, writes}
 use borrow.Author.Rules.{rules}
 use Rattle.meter.proofs.withdraw.withdraw.Statement.{statement}
 use Rattle.meter.proofs.withdraw.withdraw.Tie as tie
 
 -- the register has the area
 here : (c : tie.After-start) → let start = c.before.before.before.before.before.args in located start.place start.register.now ≡ At c.start.given.0.0
-here c = sym c.before.before.locate.ensures.found-is ∙ c.start.given.1
+here c = sym c.before.before.locate.ensures.found_is ∙ c.start.given.1
 
-locate-requires : tie.Need-locate-requires
-locate-requires c κs = search rules
+locate_requires : tie.Need-locate-requires
+locate_requires c κs = search rules
 
-enum-known-number : tie.Need-enum-known-number
-enum-known-number c = search rules
+enum_known_number : tie.Need-enum-known-number
+enum_known_number c = search rules
 
-refuse-requires : tie.Need-refuse-requires
-refuse-requires c κs = search rules
+refuse_requires : tie.Need-refuse-requires
+refuse_requires c κs = search rules
 
-enum-known-start : tie.Need-enum-known-start
-enum-known-start c = search rules
+enum_known_start : tie.Need-enum-known-start
+enum_known_start c = search rules
 
-add-end : tie.Need-overflow-add-end
-add-end c = omega (arith, has-area _ _ (here c.before))
+add_end : tie.Need-overflow-add-end
+add_end c = omega (arith, has_area _ _ (here c.before))
 
-sub-withdraw-in : tie.Need-overflow-sub-withdraw-in
-sub-withdraw-in c = search rules
+sub_withdraw_in : tie.Need-overflow-sub-withdraw-in
+sub_withdraw_in c = search rules
 
-part-withdraw-in-start : tie.Need-slice-bounds-withdraw-in-start
-part-withdraw-in-start c = search rules
+part_withdraw_in_start : tie.Need-slice-bounds-withdraw-in-start
+part_withdraw_in_start c = search rules
 
-part-withdraw-in-end : tie.Need-slice-bounds-withdraw-in-end
-part-withdraw-in-end c = omega (arith, has-area _ _ (here c.before))
+part_withdraw_in_end : tie.Need-slice-bounds-withdraw-in-end
+part_withdraw_in_end c = omega (arith, has_area _ _ (here c.before))
 
-withdraw-in-requires : tie.Need-withdraw-in-requires
-withdraw-in-requires c κs = lent_length _ _ (here c.before.before)
+withdraw_in_requires : tie.Need-withdraw-in-requires
+withdraw_in_requires c κs = lent_length _ _ (here c.before.before)
 
 same_length : tie.Need-same-length
 same_length c = search rules
 
 returns : tie.Need-returns
-unfolding place_of refusalOf
+unfolding place_of refusal_of
 returns c =
     let l = c.before.before.before.before in
     let start = l.before.before.before.args in
-    rw c.refuse.ensures (refuses (Withdraw start.place start.day start.value) start.register.now (sym l.locate.ensures.found-is ∙ c.before.before.number.given.1))
+    rw c.refuse.ensures (refuses (Withdraw start.place start.day start.value) start.register.now (sym l.locate.ensures.found_is ∙ c.before.before.number.given.1))
 
-same-length-2 : tie.Need-same-length-2
-same-length-2 c = search rules
+same_length_2 : tie.Need-same-length-2
+same_length_2 c = search rules
 
-returns-2 : tie.Need-returns-2
+returns_2 : tie.Need-returns-2
 unfolding place_of act
-returns-2 c =
+returns_2 c =
     let e = c.before.before.before.before.before in
     let start = e.before.before.before.before.before.args in
-    writes (Withdraw start.place start.day start.value) start.register.now (here e) c.before.before.withdraw-in.ensures
+    writes (Withdraw start.place start.day start.value) start.register.now (here e) c.before.before.withdraw_in.ensures
 
-pub withdraw-spec : {M : Type 1} → statement M
-withdraw-spec =
+pub withdraw_spec : {M : Type 1} → statement M
+withdraw_spec =
     tie.close
     (tie.spec
-    locate-requires
-    enum-known-number
-    refuse-requires
-    enum-known-start
-    add-end
-    sub-withdraw-in
-    part-withdraw-in-start
-    part-withdraw-in-end
-    withdraw-in-requires
+    locate_requires
+    enum_known_number
+    refuse_requires
+    enum_known_start
+    add_end
+    sub_withdraw_in
+    part_withdraw_in_start
+    part_withdraw_in_end
+    withdraw_in_requires
     same_length
     returns
-    same-length-2
-    returns-2)
+    same_length_2
+    returns_2)

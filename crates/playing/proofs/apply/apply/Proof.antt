@@ -1,44 +1,44 @@
 -- Each kind of call has its function, whose contract is this one's at that kind.
-use Rattle.calls.proofs.Tried.{is-trial}
+use Rattle.calls.proofs.Tried.{is_trial_lem}
 use borrow.Author.Rules.{rules}
 use Rattle.playing.proofs.apply.apply.Statement.{statement}
 use Rattle.playing.proofs.apply.apply.Tie as tie
 
-enum-known-call : tie.Need-enum-known-call
-enum-known-call c = search rules
+enum_known_call : tie.Need-enum-known-call
+enum_known_call c = search rules
 
-enrol-requires : tie.Need-enrol-requires
-enrol-requires c κs = search rules
+enrol_requires : tie.Need-enrol-requires
+enrol_requires c κs = search rules
 
-enum-known-call-2 : tie.Need-enum-known-call-2
-enum-known-call-2 c = search rules
+enum_known_call_2 : tie.Need-enum-known-call-2
+enum_known_call_2 c = search rules
 
-submit-requires : tie.Need-submit-requires
-submit-requires c κs = search rules
+submit_requires : tie.Need-submit-requires
+submit_requires c κs = search rules
 
-enum-known-call-3 : tie.Need-enum-known-call-3
-enum-known-call-3 c = search rules
+enum_known_call_3 : tie.Need-enum-known-call-3
+enum_known_call_3 c = search rules
 
-withdraw-requires : tie.Need-withdraw-requires
-withdraw-requires c κs = search rules
+withdraw_requires : tie.Need-withdraw-requires
+withdraw_requires c κs = search rules
 
-enum-known-call-4 : tie.Need-enum-known-call-4
-enum-known-call-4 c = search rules
+enum_known_call_4 : tie.Need-enum-known-call-4
+enum_known_call_4 c = search rules
 
-report-requires : tie.Need-report-requires
-report-requires c κs = search rules
+report_requires : tie.Need-report-requires
+report_requires c κs = search rules
 
-enum-known-call-5 : tie.Need-enum-known-call-5
-enum-known-call-5 c = search rules
+enum_known_call_5 : tie.Need-enum-known-call-5
+enum_known_call_5 c = search rules
 
-fold-requires : tie.Need-fold-requires
-fold-requires c κs = search rules
+fold_requires : tie.Need-fold-requires
+fold_requires c κs = search rules
 
-enum-known-call-6 : tie.Need-enum-known-call-6
-enum-known-call-6 c = search rules
+enum_known_call_6 : tie.Need-enum-known-call-6
+enum_known_call_6 c = search rules
 
-trial-requires : tie.Need-trial-requires
-trial-requires c κs = search rules
+trial_requires : tie.Need-trial-requires
+trial_requires c κs = search rules
 
 same_length : tie.Need-same-length
 same_length c = search rules
@@ -48,67 +48,67 @@ returns c =
     let called = c.before.before in
     rw called.before.before.before.call.given.1 called.enrol.ensures
 
-same-length-2 : tie.Need-same-length-2
-same-length-2 c = search rules
+same_length_2 : tie.Need-same-length-2
+same_length_2 c = search rules
 
-returns-2 : tie.Need-returns-2
-returns-2 c =
+returns_2 : tie.Need-returns-2
+returns_2 c =
     let called = c.before.before in
     rw called.before.before.before.call2.given.1 called.submit.ensures
 
-same-length-3 : tie.Need-same-length-3
-same-length-3 c = search rules
+same_length_3 : tie.Need-same-length-3
+same_length_3 c = search rules
 
-returns-3 : tie.Need-returns-3
-returns-3 c =
+returns_3 : tie.Need-returns-3
+returns_3 c =
     let called = c.before.before in
     rw called.before.before.before.call3.given.1 called.withdraw.ensures
 
-same-length-4 : tie.Need-same-length-4
-same-length-4 c = search rules
+same_length_4 : tie.Need-same-length-4
+same_length_4 c = search rules
 
-returns-4 : tie.Need-returns-4
-returns-4 c = rw c.before.before.before.call4.given.1 c.report.ensures
+returns_4 : tie.Need-returns-4
+returns_4 c = rw c.before.before.before.call4.given.1 c.report.ensures
 
-same-length-5 : tie.Need-same-length-5
-same-length-5 c = search rules
+same_length_5 : tie.Need-same-length-5
+same_length_5 c = search rules
 
-returns-5 : tie.Need-returns-5
-returns-5 c =
+returns_5 : tie.Need-returns-5
+returns_5 c =
     let called = c.before.before in
     rw called.before.before.before.call5.given.1 called.fold.ensures
 
-same-length-6 : tie.Need-same-length-6
-same-length-6 c = search rules
+same_length_6 : tie.Need-same-length-6
+same_length_6 c = search rules
 
-returns-6 : tie.Need-returns-6
-returns-6 c = rw c.before.before.before.call6.given.1 (is-trial _ _ _ c.trial.ensures)
+returns_6 : tie.Need-returns-6
+returns_6 c = rw c.before.before.before.call6.given.1 (is_trial_lem _ _ _ c.trial.ensures)
 
-pub apply-spec : {M : Type 1} → statement M
-apply-spec =
+pub apply_spec : {M : Type 1} → statement M
+apply_spec =
     tie.close
     (tie.spec
-    enum-known-call
-    enrol-requires
-    enum-known-call-2
-    submit-requires
-    enum-known-call-3
-    withdraw-requires
-    enum-known-call-4
-    report-requires
-    enum-known-call-5
-    fold-requires
-    enum-known-call-6
-    trial-requires
+    enum_known_call
+    enrol_requires
+    enum_known_call_2
+    submit_requires
+    enum_known_call_3
+    withdraw_requires
+    enum_known_call_4
+    report_requires
+    enum_known_call_5
+    fold_requires
+    enum_known_call_6
+    trial_requires
     same_length
     returns
-    same-length-2
-    returns-2
-    same-length-3
-    returns-3
-    same-length-4
-    returns-4
-    same-length-5
-    returns-5
-    same-length-6
-    returns-6)
+    same_length_2
+    returns_2
+    same_length_3
+    returns_3
+    same_length_4
+    returns_4
+    same_length_5
+    returns_5
+    same_length_6
+    returns_6)

@@ -1,28 +1,28 @@
 -- Every example computes to what it says.
 use mathlib.Core.Path.{refl}
-use Rattle.terms.specs.Entry.{isStanding, those}
-use Rattle.journal.specs.Journal.{onDay}
+use Rattle.terms.specs.Entry.{is_standing, those}
+use Rattle.journal.specs.Journal.{on_day}
 use Rattle.journal.specs.Sound.{any}
-use Rattle.reads.specs.Search.{notFound, ends_at, searchFrom, isLaterThan, isNotLater, daysCompared, searchAnswer}
+use Rattle.reads.specs.Search.{not_found, ends_at, search_from, is_later_than, is_not_later, days_compared, search_answer}
 use Rattle.reads.proofs.claims.search_examples.Statement.{statement}
 use Rattle.reads.proofs.claims.search_examples.Tie as tie
 
 returns : tie.Need-returns
-unfolding isStanding those onDay any notFound ends_at searchFrom isLaterThan isNotLater daysCompared searchAnswer
+unfolding is_standing those on_day any not_found ends_at search_from is_later_than is_not_later days_compared search_answer
 returns c =
     record {
-      after-newest = refl;
-      on-newest = refl;
-      before-newest = refl;
-      on-middle = refl;
-      before-middle = refl;
-      on-oldest = refl;
-      before-oldest = refl;
-      others-passed-over = refl;
-      none-stands = refl;
-      ends-at-smaller = refl;
-      ends-at-equal = refl;
+      after_newest = refl;
+      on_newest = refl;
+      before_newest = refl;
+      on_middle = refl;
+      before_middle = refl;
+      on_oldest = refl;
+      before_oldest = refl;
+      others_passed_over = refl;
+      none_stands = refl;
+      ends_at_smaller = refl;
+      ends_at_equal = refl;
     }
 
-pub search-examples-spec : {M : Type 1} → statement M
-search-examples-spec = tie.close (tie.spec returns)
+pub search_examples_spec : {M : Type 1} → statement M
+search_examples_spec = tie.close (tie.spec returns)

@@ -8,11 +8,11 @@ use Rattle.reads.proofs.held.held.Tie as tie
 returns : tie.Need-returns
 returns c = λ is. held_none _ _ is c.if1.true
 
-entry-in-requires : tie.Need-entry-in-requires
-entry-in-requires c κs = search rules
+entry_in_requires : tie.Need-entry-in-requires
+entry_in_requires c κs = search rules
 
-returns-2 : tie.Need-returns-2
-returns-2 c = λ is. c.entry_in.ensures ∙ held_in _ _ is c.before.if1.false
+returns_2 : tie.Need-returns-2
+returns_2 c = λ is. c.entry_in.ensures ∙ held_in _ _ is c.before.if1.false
 
 pub held_spec : {M : Type 1} → statement M
-held_spec = tie.close (tie.spec returns entry-in-requires returns-2)
+held_spec = tie.close (tie.spec returns entry_in_requires returns_2)

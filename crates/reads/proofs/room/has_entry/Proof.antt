@@ -1,15 +1,15 @@
 -- The code is the definition, test for test.
-use Rattle.reads.specs.Inner.Room.{hasRoom}
+use Rattle.reads.specs.Inner.Room.{has_room}
 use borrow.Author.Rules.{rules}
 use Rattle.reads.proofs.room.has_entry.Statement.{statement}
 use Rattle.reads.proofs.room.has_entry.Tie as tie
 
-most-entries-requires : tie.Need-most-entries-requires
-most-entries-requires c κs = search rules
+most_entries_requires : tie.Need-most-entries-requires
+most_entries_requires c κs = search rules
 
 returns : tie.Need-returns
-unfolding hasRoom
-returns c = rw c.most-entries.ensures
+unfolding has_room
+returns c = rw c.most_entries.ensures
 
-pub has-entry-spec : {M : Type 1} → statement M
-has-entry-spec = tie.close (tie.spec most-entries-requires returns)
+pub has_entry_spec : {M : Type 1} → statement M
+has_entry_spec = tie.close (tie.spec most_entries_requires returns)

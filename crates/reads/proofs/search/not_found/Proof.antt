@@ -1,11 +1,11 @@
 use mathlib.Core.Path.{refl}
-use Rattle.reads.specs.Search.{notFound}
+use Rattle.reads.specs.Search.{not_found}
 use Rattle.reads.proofs.search.not_found.Statement.{statement}
 use Rattle.reads.proofs.search.not_found.Tie as tie
 
 returns : tie.Need-returns
-unfolding notFound
+unfolding not_found
 returns c = refl
 
-pub not-found-spec : {M : Type 1} → statement M
-not-found-spec = tie.close (tie.spec returns)
+pub not_found_spec : {M : Type 1} → statement M
+not_found_spec = tie.close (tie.spec returns)

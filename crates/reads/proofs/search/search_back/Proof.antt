@@ -6,59 +6,59 @@ use Prim.Native.Nat.{suc, ◌+◌, ◌-◌, ◌≤◌}
 use native.Mathlib.Omega.{arith}
 use borrow.Author.Rules.{rules}
 use borrow.Author.Tests.{eq-eqb, ne_eqb}
-use Rattle.terms.specs.Entry.{isStanding, those}
-use Rattle.register.specs.Entries.{entryAt}
-use Rattle.journal.specs.Journal.{entriesTo, standing}
-use Rattle.reads.specs.Search.{searchFrom}
+use Rattle.terms.specs.Entry.{is_standing, those}
+use Rattle.register.specs.Entries.{entry_at}
+use Rattle.journal.specs.Journal.{entries_to, standing}
+use Rattle.reads.specs.Search.{search_from}
 use Rattle.reads.proofs.Searched.{passed_over, passed_later, ended}
 use Rattle.reads.proofs.search.search_back.Statement.{statement}
 use Rattle.reads.proofs.search.search_back.Tie as tie
 
-abbrev invariant-loop : tie.invariant-loop
-invariant-loop body m day later₀ k₀ later k = (later + k ≤ m) × (searchFrom day later (standing (entriesTo k body)) ≡ searchFrom day 0 (standing (entriesTo m body)))
+abbrev invariant_loop : tie.invariant_loop
+invariant_loop body m day later₀ k₀ later k = (later + k ≤ m) × (search_from day later (standing (entries_to k body)) ≡ search_from day 0 (standing (entries_to m body)))
 
-abbrev decreases-loop : tie.decreases-loop
-decreases-loop body m day later₀ k₀ later k = k
+abbrev decreases_loop : tie.decreases_loop
+decreases_loop body m day later₀ k₀ later k = k
 
-loop-holds : tie.Need-loop-init invariant-loop decreases-loop
-loop-holds c = (omega arith, refl)
+loop_holds : tie.Need-loop-init invariant_loop decreases_loop
+loop_holds c = (omega arith, refl)
 
-sub-newest : tie.Need-overflow-sub-newest invariant-loop decreases-loop
-sub-newest c = omega arith
+sub_newest : tie.Need-overflow-sub-newest invariant_loop decreases_loop
+sub_newest c = omega arith
 
-entry-at-requires : tie.Need-entry-at-requires invariant-loop decreases-loop
-entry-at-requires c κs = search rules
+entry_at_requires : tie.Need-entry-at-requires invariant_loop decreases_loop
+entry_at_requires c κs = search rules
 
-end-at-requires : tie.Need-end-at-requires invariant-loop decreases-loop
-end-at-requires c κs = search rules
+end_at_requires : tie.Need-end-at-requires invariant_loop decreases_loop
+end_at_requires c κs = search rules
 
 -- the entry that is looked at
-one : (c : tie.In-loop invariant-loop decreases-loop) → c.before.loop.k ≡ suc (c.before.loop.k - 1)
-one c = omega (arith, c.loop-test.true)
+one : (c : tie.In-loop invariant_loop decreases_loop) → c.before.loop.k ≡ suc (c.before.loop.k - 1)
+one c = omega (arith, c.loop_test.true)
 
-returns : tie.Need-returns invariant-loop decreases-loop
-unfolding isStanding
+returns : tie.Need-returns invariant_loop decreases_loop
+unfolding is_standing
 returns c =
     let stands = c.before.before.before in
     let read = stands.before.before in
     let now = read.before in
-    c.end-at.ensures
+    c.end_at.ensures
     ∙ rw read.entry_at.ensures
     (sym (ended _ _ _ (one now) (rw read.entry_at.ensures at (eq-eqb _ _ stands.if1.true)) (rw read.entry_at.ensures at c.before.if2.true)))
     ∙ now.before.loop.invariant.1
 
-add-later : tie.Need-overflow-add-later invariant-loop decreases-loop
-add-later c = omega arith
+add_later : tie.Need-overflow-add-later invariant_loop decreases_loop
+add_later c = omega arith
 
-sub-k : tie.Need-overflow-sub-k invariant-loop decreases-loop
-sub-k c = omega arith
+sub_k : tie.Need-overflow-sub-k invariant_loop decreases_loop
+sub_k c = omega arith
 
-loop-less : tie.Need-loop-smaller invariant-loop decreases-loop
-loop-less c = omega arith
+loop_less : tie.Need-loop-smaller invariant_loop decreases_loop
+loop_less c = omega arith
 
-loop-again : tie.Need-loop-preserved invariant-loop decreases-loop
-unfolding isStanding
-loop-again c =
+loop_again : tie.Need-loop-preserved invariant_loop decreases_loop
+unfolding is_standing
+loop_again c =
     let read = c.before.before in
     let now = read.before in
     let held = now.before.loop.invariant in
@@ -68,30 +68,30 @@ loop-again c =
     (λ w. (omega arith, rw w.1 (sym (passed_over _ _ _ (one now) (rw is at (ne_eqb _ _ w.0.left))) ∙ held.1)))
     c.if1.branch
 
-not-found-requires : tie.Need-not-found-requires invariant-loop decreases-loop
-not-found-requires c κs = search rules
+not_found_requires : tie.Need-not-found-requires invariant_loop decreases_loop
+not_found_requires c κs = search rules
 
-returns-2 : tie.Need-returns-2 invariant-loop decreases-loop
-unfolding entriesTo those searchFrom
-returns-2 c =
+returns_2 : tie.Need-returns-2 invariant_loop decreases_loop
+unfolding entries_to those search_from
+returns_2 c =
     let loop = c.before.before in
-    let none : loop.loop.k ≡ 0 = omega (arith, c.before.loop-test.false) in
+    let none : loop.loop.k ≡ 0 = omega (arith, c.before.loop_test.false) in
     c.not_found.ensures ∙ rw none at loop.loop.invariant.1
 
-pub search-back-spec : {M : Type 1} → statement M
-search-back-spec =
+pub search_back_spec : {M : Type 1} → statement M
+search_back_spec =
     tie.close
     (tie.spec
-    invariant-loop
-    decreases-loop
-    loop-holds
-    sub-newest
-    entry-at-requires
-    end-at-requires
+    invariant_loop
+    decreases_loop
+    loop_holds
+    sub_newest
+    entry_at_requires
+    end_at_requires
     returns
-    add-later
-    sub-k
-    loop-less
-    loop-again
-    not-found-requires
-    returns-2)
+    add_later
+    sub_k
+    loop_less
+    loop_again
+    not_found_requires
+    returns_2)

@@ -7,10 +7,10 @@ use borrow.Author.Rules.{rules}
 use borrow.Author.Tests.{not-true, not-false}
 use lib.Dec.{ltb}
 use mir.Val.{bool_byte}
-use Rattle.reads.specs.Inner.Room.{hasRoom}
-use Rattle.reads.proofs.Lent.{few-entries, lent-room, start-room}
-use Rattle.reads.proofs.Counted.{rises, day-is, stands-is, no_room, lent-all}
-use Rattle.reads.proofs.Searched.{search-right, none-standing, newest-earlier}
+use Rattle.reads.specs.Inner.Room.{has_room}
+use Rattle.reads.proofs.Lent.{few_entries, lent_room, start_room}
+use Rattle.reads.proofs.Counted.{rises, day_is, stands_is, no_room, lent_all}
+use Rattle.reads.proofs.Searched.{search_right, none_standing, newest_earlier}
 use Rattle.reads.proofs.search.search_day.Statement.{statement}
 use Rattle.reads.proofs.search.search_day.Tie as tie
 
@@ -18,30 +18,30 @@ one_at_most : (b : Bool) → bool_byte b ≤ 1
 one_at_most true = omega arith
 one_at_most false = omega arith
 
-cast-not-found : tie.Need-overflow-cast-not-found
-cast-not-found c = search rules
+cast_not_found : tie.Need-overflow-cast-not-found
+cast_not_found c = search rules
 
-not-found-requires : tie.Need-not-found-requires
-not-found-requires c κs = search rules
+not_found_requires : tie.Need-not-found-requires
+not_found_requires c κs = search rules
 
 returns : tie.Need-returns
 returns c =
     let t = c.before.before.before.before.before.before.before.args.t in
-    λ is. c.not_found.ensures ∙ newest-earlier _ _ (stands-is _ t is) (rises _ t is) (omega (arith, day-is _ t is, c.before.before.if1.true))
+    λ is. c.not_found.ensures ∙ newest_earlier _ _ (stands_is _ t is) (rises _ t is) (omega (arith, day_is _ t is, c.before.before.if1.true))
 
-has-entry-requires : tie.Need-has-entry-requires
-has-entry-requires c κs = search rules
+has_entry_requires : tie.Need-has-entry-requires
+has_entry_requires c κs = search rules
 
-not-found-requires-2 : tie.Need-not-found-requires-2
-not-found-requires-2 c κs = search rules
+not_found_requires_2 : tie.Need-not-found-requires-2
+not_found_requires_2 c κs = search rules
 
-returns-2 : tie.Need-returns-2
-returns-2 c =
+returns_2 : tie.Need-returns-2
+returns_2 c =
     let none = c.before in
-    λ is. c.not-found2.ensures ∙ none-standing _ _ (no_room _ _ is (sym none.before.has-entry.ensures ∙ not-true _ none.if2.true))
+    λ is. c.not_found2.ensures ∙ none_standing _ _ (no_room _ _ is (sym none.before.has_entry.ensures ∙ not-true _ none.if2.true))
 
-head-bytes-requires : tie.Need-head-bytes-requires
-head-bytes-requires c κs = search rules
+head_bytes_requires : tie.Need-head-bytes-requires
+head_bytes_requires c κs = search rules
 
 module _ (c : tie.After-head-bytes) where
   abbrev start : tie.Start
@@ -50,48 +50,48 @@ module _ (c : tie.After-head-bytes) where
   one : bool_byte (ltb 0 start.args.t.counts.standing) ≤ 1
   one = one_at_most (ltb 0 start.args.t.counts.standing)
 
-  room : hasRoom start.args.area.now start.args.t.head (suc start.args.t.counts.newest) ≡ true
-  room = sym c.before.before.has-entry.ensures ∙ not-false _ c.before.if2.false
+  room : has_room start.args.area.now start.args.t.head (suc start.args.t.counts.newest) ≡ true
+  room = sym c.before.before.has_entry.ensures ∙ not-false _ c.before.if2.false
 
-sub-search-back : tie.Need-overflow-sub-search-back
-sub-search-back c = start-room _ (start c).args.t.head _ (room c) c.head_bytes.ensures
+sub_search_back : tie.Need-overflow-sub-search-back
+sub_search_back c = start_room _ (start c).args.t.head _ (room c) c.head_bytes.ensures
 
-part-search-back-start : tie.Need-slice-bounds-search-back-start
-part-search-back-start c = start-room _ (start c).args.t.head _ (room c) c.head_bytes.ensures
+part_search_back_start : tie.Need-slice-bounds-search-back-start
+part_search_back_start c = start_room _ (start c).args.t.head _ (room c) c.head_bytes.ensures
 
-part-search-back-end : tie.Need-slice-bounds-search-back-end
-part-search-back-end c = search rules
+part_search_back_end : tie.Need-slice-bounds-search-back-end
+part_search_back_end c = search rules
 
-cast-search-back : tie.Need-overflow-cast-search-back
-cast-search-back c = search rules
+cast_search_back : tie.Need-overflow-cast-search-back
+cast_search_back c = search rules
 
-add-search-back : tie.Need-overflow-add-search-back
-add-search-back c = let h = c.before.before.before in omega (arith, few-entries _ (start h).args.t.head _ (room h) h.head_bytes.ensures, one h)
+add_search_back : tie.Need-overflow-add-search-back
+add_search_back c = let h = c.before.before.before in omega (arith, few_entries _ (start h).args.t.head _ (room h) h.head_bytes.ensures, one h)
 
-search-back-requires : tie.Need-search-back-requires
-search-back-requires c κs = let h = c.before.before.before in omega (arith, lent-room _ (start h).args.t.head _ (room h) h.head_bytes.ensures, one h)
+search_back_requires : tie.Need-search-back-requires
+search_back_requires c κs = let h = c.before.before.before in omega (arith, lent_room _ (start h).args.t.head _ (room h) h.head_bytes.ensures, one h)
 
-returns-3 : tie.Need-returns-3
-returns-3 c =
+returns_3 : tie.Need-returns-3
+returns_3 c =
     let h = c.before.before.before.before in
     let t = (start h).args.t in
-    λ is. rw (lent-all _ t is h.head_bytes.ensures) at c.search-back.ensures ∙ search-right _ _ (rises _ t is)
+    λ is. rw (lent_all _ t is h.head_bytes.ensures) at c.search_back.ensures ∙ search_right _ _ (rises _ t is)
 
-pub search-day-spec : {M : Type 1} → statement M
-search-day-spec =
+pub search_day_spec : {M : Type 1} → statement M
+search_day_spec =
     tie.close
     (tie.spec
-    cast-not-found
-    not-found-requires
+    cast_not_found
+    not_found_requires
     returns
-    has-entry-requires
-    not-found-requires-2
-    returns-2
-    head-bytes-requires
-    sub-search-back
-    part-search-back-start
-    part-search-back-end
-    cast-search-back
-    add-search-back
-    search-back-requires
-    returns-3)
+    has_entry_requires
+    not_found_requires_2
+    returns_2
+    head_bytes_requires
+    sub_search_back
+    part_search_back_start
+    part_search_back_end
+    cast_search_back
+    add_search_back
+    search_back_requires
+    returns_3)

@@ -1,50 +1,50 @@
 -- Every example computes to what it says.
 use mathlib.Core.Path.{refl}
-use Rattle.terms.specs.Profile.{meterKind, profileOf}
-use Rattle.register.specs.Area.{areasIn, areaOf, with_area, allZero}
-use Rattle.register.specs.Bytes.{word_at, longAt, putWord, putLong}
-use Rattle.register.specs.Entries.{entryAt, putEntry}
-use Rattle.register.specs.Head.{isCarryAt, carryAt, no_carry, head_of, putMeter, putCarry, putHead, headBytes, body_of, offsetAfter, entryOffset}
+use Rattle.terms.specs.Profile.{meter_kind, profile_of}
+use Rattle.register.specs.Area.{areas_in, area_of, with_area, all_zero}
+use Rattle.register.specs.Bytes.{word_at, long_at, put_word, put_long}
+use Rattle.register.specs.Entries.{entry_at, put_entry}
+use Rattle.register.specs.Head.{is_carry_at, carry_at, no_carry, head_of, put_meter, put_carry, put_head, head_bytes, body_of, offset_after, entry_offset}
 use Rattle.register.proofs.claims.register_examples_hold.Statement.{statement}
 use Rattle.register.proofs.claims.register_examples_hold.Tie as tie
 
 returns : tie.Need-returns
-unfolding meterKind profileOf areasIn areaOf with_area allZero word_at longAt putWord putLong entryAt putEntry isCarryAt carryAt no_carry head_of putMeter putCarry putHead headBytes body_of offsetAfter entryOffset
+unfolding meter_kind profile_of areas_in area_of with_area all_zero word_at long_at put_word put_long entry_at put_entry is_carry_at carry_at no_carry head_of put_meter put_carry put_head head_bytes body_of offset_after entry_offset
 returns c =
     record {
-      register-bytes = refl;
-      area-count = λ register. refl;
-      area-bytes = refl;
-      all-areas = refl;
-      place-0 = refl;
-      place-1 = refl;
-      place-2 = refl;
-      with-place-1 = refl;
+      register_bytes_row = refl;
+      area_count = λ register. refl;
+      area_bytes_row = refl;
+      all_areas = refl;
+      place_0 = refl;
+      place_1 = refl;
+      place_2 = refl;
+      with_place_1 = refl;
       zeros = refl;
-      first-not-zero = refl;
-      last-not-zero = refl;
-      byte-read = refl;
+      first_not_zero = refl;
+      last_not_zero = refl;
+      byte_read = refl;
       past_the_end = refl;
       word_read = refl;
-      long-read = refl;
-      word-written = refl;
-      long-written = refl;
+      long_read = refl;
+      word_written = refl;
+      long_written = refl;
       entry_read = refl;
-      entry-written = refl;
-      entry-zeroed = refl;
+      entry_written = refl;
+      entry_zeroed = refl;
       first_entry = refl;
-      third-entry = refl;
-      meter-read = refl;
-      pseudo-read = refl;
-      meter-written = refl;
-      pseudo-written = refl;
-      carry-read = refl;
-      carry-written = refl;
+      third_entry = refl;
+      meter_read = refl;
+      pseudo_read = refl;
+      meter_written = refl;
+      pseudo_written = refl;
+      carry_read = refl;
+      carry_written = refl;
       body = refl;
-      body-after-a-carry = refl;
-      third-in-the-area = refl;
-      third-after-a-carry = refl;
+      body_after_a_carry = refl;
+      third_in_the_area = refl;
+      third_after_a_carry = refl;
     }
 
-pub register-examples-hold-spec : {M : Type 1} → statement M
-register-examples-hold-spec = tie.close (tie.spec returns)
+pub register_examples_hold_spec : {M : Type 1} → statement M
+register_examples_hold_spec = tie.close (tie.spec returns)

@@ -1,16 +1,16 @@
 -- The definition's number.
-use Rattle.register.specs.Head.{mostEntries}
+use Rattle.register.specs.Head.{most_entries}
 use borrow.Author.Rules.{rules}
 use Rattle.register.proofs.head.most_entries.Statement.{statement}
 use Rattle.register.proofs.head.most_entries.Tie as tie
 
 returns : tie.Need-returns
-unfolding mostEntries
+unfolding most_entries
 returns c = search rules
 
-returns-2 : tie.Need-returns-2
-unfolding mostEntries
-returns-2 c = search rules
+returns_2 : tie.Need-returns-2
+unfolding most_entries
+returns_2 c = search rules
 
-pub most-entries-spec : {M : Type 1} → statement M
-most-entries-spec = tie.close (tie.spec returns returns-2)
+pub most_entries_spec : {M : Type 1} → statement M
+most_entries_spec = tie.close (tie.spec returns returns_2)

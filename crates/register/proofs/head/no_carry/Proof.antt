@@ -8,5 +8,5 @@ returns : tie.Need-returns
 unfolding no_carry
 returns c = search rules
 
-pub no-carry-spec : {M : Type 1} → statement M
-no-carry-spec = tie.close (tie.spec returns)
+pub no_carry_spec : {M : Type 1} → statement M
+no_carry_spec = tie.close (tie.spec returns)

@@ -1,68 +1,68 @@
 -- Each field is read where the definition has it, where the byte after the meter's entry is a carry's.
 use borrow.Author.Tests.{eq-eqb, ne_eqb}
-use Rattle.terms.specs.Entry.{kindCarry}
-use Rattle.register.specs.Head.{isCarryAt, carryAt}
+use Rattle.terms.specs.Entry.{kind_carry}
+use Rattle.register.specs.Head.{is_carry_at, carry_at}
 use borrow.Author.Rules.{rules}
 use Rattle.register.proofs.read.carry_of.Statement.{statement}
 use Rattle.register.proofs.read.carry_of.Tie as tie
 
-byte-at-requires : tie.Need-byte-at-requires
-byte-at-requires c κs = search rules
+byte_at_requires : tie.Need-byte-at-requires
+byte_at_requires c κs = search rules
 
-no-carry-requires : tie.Need-no-carry-requires
-no-carry-requires c κs = search rules
+no_carry_requires : tie.Need-no-carry-requires
+no_carry_requires c κs = search rules
 
 returns : tie.Need-returns
-unfolding isCarryAt
-returns c = rw (← c.before.before.byte_at.ensures, ne_eqb _ kindCarry c.before.if1.true) c.no-carry.ensures
+unfolding is_carry_at
+returns c = rw (← c.before.before.byte_at.ensures, ne_eqb _ kind_carry c.before.if1.true) c.no_carry.ensures
 
-cast-at : tie.Need-overflow-cast-at
-cast-at c = search rules
+cast_at : tie.Need-overflow-cast-at
+cast_at c = search rules
 
-add-long-at : tie.Need-overflow-add-long-at
-add-long-at c = search rules
+add_long_at : tie.Need-overflow-add-long-at
+add_long_at c = search rules
 
-long-at-requires : tie.Need-long-at-requires
-long-at-requires c κs = search rules
+long_at_requires : tie.Need-long-at-requires
+long_at_requires c κs = search rules
 
-cast-word-at : tie.Need-overflow-cast-word-at
-cast-word-at c = search rules
+cast_word_at : tie.Need-overflow-cast-word-at
+cast_word_at c = search rules
 
-add-word-at : tie.Need-overflow-add-word-at
-add-word-at c = search rules
+add_word_at : tie.Need-overflow-add-word-at
+add_word_at c = search rules
 
-word-at-requires : tie.Need-word-at-requires
-word-at-requires c κs = search rules
+word_at_requires : tie.Need-word-at-requires
+word_at_requires c κs = search rules
 
-cast-word-at-2 : tie.Need-overflow-cast-word-at-2
-cast-word-at-2 c = search rules
+cast_word_at_2 : tie.Need-overflow-cast-word-at-2
+cast_word_at_2 c = search rules
 
-add-word-at-2 : tie.Need-overflow-add-word-at-2
-add-word-at-2 c = search rules
+add_word_at_2 : tie.Need-overflow-add-word-at-2
+add_word_at_2 c = search rules
 
-word-at-requires-2 : tie.Need-word-at-requires-2
-word-at-requires-2 c κs = search rules
+word_at_requires_2 : tie.Need-word-at-requires-2
+word_at_requires_2 c κs = search rules
 
-returns-2 : tie.Need-returns-2
-unfolding isCarryAt carryAt
-returns-2 c =
+returns_2 : tie.Need-returns-2
+unfolding is_carry_at carry_at
+returns_2 c =
     let kind = c.before.before.before in
-    rw (← kind.before.byte_at.ensures, eq-eqb _ kindCarry kind.if1.false, c.before.before.long-at.ensures, c.before.word_at.ensures, c.word-at2.ensures)
+    rw (← kind.before.byte_at.ensures, eq-eqb _ kind_carry kind.if1.false, c.before.before.long_at.ensures, c.before.word_at.ensures, c.word_at2.ensures)
 
-pub carry-of-spec : {M : Type 1} → statement M
-carry-of-spec =
+pub carry_of_spec : {M : Type 1} → statement M
+carry_of_spec =
     tie.close
     (tie.spec
-    byte-at-requires
-    no-carry-requires
+    byte_at_requires
+    no_carry_requires
     returns
-    cast-at
-    add-long-at
-    long-at-requires
-    cast-word-at
-    add-word-at
-    word-at-requires
-    cast-word-at-2
-    add-word-at-2
-    word-at-requires-2
-    returns-2)
+    cast_at
+    add_long_at
+    long_at_requires
+    cast_word_at
+    add_word_at
+    word_at_requires
+    cast_word_at_2
+    add_word_at_2
+    word_at_requires_2
+    returns_2)

@@ -1,52 +1,52 @@
 -- The entry that the rest of the bytes begins with, or that of no bytes past their end.
 use mathlib.Core.Path.{◌∙◌}
 use native.Mathlib.Omega.{arith}
-use Rattle.register.proofs.Parts.{rest-entry, none-entry}
+use Rattle.register.proofs.Parts.{rest_entry, none_entry}
 use borrow.Author.Rules.{rules}
 use Rattle.register.proofs.read.cut_entry.Statement.{statement}
 use Rattle.register.proofs.read.cut_entry.Tie as tie
 
-sub-entry-of : tie.Need-overflow-sub-entry-of
-sub-entry-of c = search rules
+sub_entry_of : tie.Need-overflow-sub-entry-of
+sub_entry_of c = search rules
 
-part-entry-of-start : tie.Need-slice-bounds-entry-of-start
-part-entry-of-start c = search rules
+part_entry_of_start : tie.Need-slice-bounds-entry-of-start
+part_entry_of_start c = search rules
 
-part-entry-of-end : tie.Need-slice-bounds-entry-of-end
-part-entry-of-end c = search rules
+part_entry_of_end : tie.Need-slice-bounds-entry-of-end
+part_entry_of_end c = search rules
 
-entry-of-requires : tie.Need-entry-of-requires
-entry-of-requires c κs = search rules
+entry_of_requires : tie.Need-entry-of-requires
+entry_of_requires c κs = search rules
 
 returns : tie.Need-returns
-returns c = c.entry_of.ensures ∙ none-entry c.before.before.before.before.args.bytes.now _ (omega arith)
+returns c = c.entry_of.ensures ∙ none_entry c.before.before.before.before.args.bytes.now _ (omega arith)
 
-sub-entry-of-2 : tie.Need-overflow-sub-entry-of-2
-sub-entry-of-2 c = search rules
+sub_entry_of_2 : tie.Need-overflow-sub-entry-of-2
+sub_entry_of_2 c = search rules
 
-part-entry-of-start-2 : tie.Need-slice-bounds-entry-of-start-2
-part-entry-of-start-2 c = search rules
+part_entry_of_start_2 : tie.Need-slice-bounds-entry-of-start-2
+part_entry_of_start_2 c = search rules
 
-part-entry-of-end-2 : tie.Need-slice-bounds-entry-of-end-2
-part-entry-of-end-2 c = search rules
+part_entry_of_end_2 : tie.Need-slice-bounds-entry-of-end-2
+part_entry_of_end_2 c = search rules
 
-entry-of-requires-2 : tie.Need-entry-of-requires-2
-entry-of-requires-2 c κs = search rules
+entry_of_requires_2 : tie.Need-entry-of-requires-2
+entry_of_requires_2 c κs = search rules
 
-returns-2 : tie.Need-returns-2
-returns-2 c = c.entry-of2.ensures ∙ rest-entry c.before.before.before.before.args.bytes.now _
+returns_2 : tie.Need-returns-2
+returns_2 c = c.entry_of2.ensures ∙ rest_entry c.before.before.before.before.args.bytes.now _
 
-pub cut-entry-spec : {M : Type 1} → statement M
-cut-entry-spec =
+pub cut_entry_spec : {M : Type 1} → statement M
+cut_entry_spec =
     tie.close
     (tie.spec
-    sub-entry-of
-    part-entry-of-start
-    part-entry-of-end
-    entry-of-requires
+    sub_entry_of
+    part_entry_of_start
+    part_entry_of_end
+    entry_of_requires
     returns
-    sub-entry-of-2
-    part-entry-of-start-2
-    part-entry-of-end-2
-    entry-of-requires-2
-    returns-2)
+    sub_entry_of_2
+    part_entry_of_start_2
+    part_entry_of_end_2
+    entry_of_requires_2
+    returns_2)

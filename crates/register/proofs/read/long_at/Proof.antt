@@ -1,43 +1,43 @@
 -- Four bytes, as the definition has them.
-use Rattle.register.specs.Bytes.{longAt}
+use Rattle.register.specs.Bytes.{long_at}
 use borrow.Author.Rules.{rules}
 use Rattle.register.proofs.read.long_at.Statement.{statement}
 use Rattle.register.proofs.read.long_at.Tie as tie
 
-word-at-requires : tie.Need-word-at-requires
-word-at-requires c κs = search rules
+word_at_requires : tie.Need-word-at-requires
+word_at_requires c κs = search rules
 
-cast-low : tie.Need-overflow-cast-low
-cast-low c = search rules
+cast_low : tie.Need-overflow-cast-low
+cast_low c = search rules
 
-add-word-at : tie.Need-overflow-add-word-at
-add-word-at c = search rules
+add_word_at : tie.Need-overflow-add-word-at
+add_word_at c = search rules
 
-word-at-requires-2 : tie.Need-word-at-requires-2
-word-at-requires-2 c κs = search rules
+word_at_requires_2 : tie.Need-word-at-requires-2
+word_at_requires_2 c κs = search rules
 
-cast-high : tie.Need-overflow-cast-high
-cast-high c = search rules
+cast_high : tie.Need-overflow-cast-high
+cast_high c = search rules
 
-mul-result : tie.Need-overflow-mul-result
-mul-result c = search rules
+mul_result : tie.Need-overflow-mul-result
+mul_result c = search rules
 
-add-result : tie.Need-overflow-add-result
-add-result c = search rules
+add_result : tie.Need-overflow-add-result
+add_result c = search rules
 
 returns : tie.Need-returns
-unfolding longAt
-returns c = cc (c.before.word_at.ensures, c.word-at2.ensures)
+unfolding long_at
+returns c = cc (c.before.word_at.ensures, c.word_at2.ensures)
 
-pub long-at-spec : {M : Type 1} → statement M
-long-at-spec =
+pub long_at_spec : {M : Type 1} → statement M
+long_at_spec =
     tie.close
     (tie.spec
-    word-at-requires
-    cast-low
-    add-word-at
-    word-at-requires-2
-    cast-high
-    mul-result
-    add-result
+    word_at_requires
+    cast_low
+    add_word_at
+    word_at_requires_2
+    cast_high
+    mul_result
+    add_result
     returns)

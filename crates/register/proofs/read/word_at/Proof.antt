@@ -4,40 +4,40 @@ use borrow.Author.Rules.{rules}
 use Rattle.register.proofs.read.word_at.Statement.{statement}
 use Rattle.register.proofs.read.word_at.Tie as tie
 
-byte-at-requires : tie.Need-byte-at-requires
-byte-at-requires c κs = search rules
+byte_at_requires : tie.Need-byte-at-requires
+byte_at_requires c κs = search rules
 
-cast-low : tie.Need-overflow-cast-low
-cast-low c = search rules
+cast_low : tie.Need-overflow-cast-low
+cast_low c = search rules
 
-add-byte-at : tie.Need-overflow-add-byte-at
-add-byte-at c = search rules
+add_byte_at : tie.Need-overflow-add-byte-at
+add_byte_at c = search rules
 
-byte-at-requires-2 : tie.Need-byte-at-requires-2
-byte-at-requires-2 c κs = search rules
+byte_at_requires_2 : tie.Need-byte-at-requires-2
+byte_at_requires_2 c κs = search rules
 
-cast-high : tie.Need-overflow-cast-high
-cast-high c = search rules
+cast_high : tie.Need-overflow-cast-high
+cast_high c = search rules
 
-mul-result : tie.Need-overflow-mul-result
-mul-result c = search rules
+mul_result : tie.Need-overflow-mul-result
+mul_result c = search rules
 
-add-result : tie.Need-overflow-add-result
-add-result c = search rules
+add_result : tie.Need-overflow-add-result
+add_result c = search rules
 
 returns : tie.Need-returns
 unfolding word_at
-returns c = cc (c.before.byte_at.ensures, c.byte-at2.ensures)
+returns c = cc (c.before.byte_at.ensures, c.byte_at2.ensures)
 
-pub word-at-spec : {M : Type 1} → statement M
-word-at-spec =
+pub word_at_spec : {M : Type 1} → statement M
+word_at_spec =
     tie.close
     (tie.spec
-    byte-at-requires
-    cast-low
-    add-byte-at
-    byte-at-requires-2
-    cast-high
-    mul-result
-    add-result
+    byte_at_requires
+    cast_low
+    add_byte_at
+    byte_at_requires_2
+    cast_high
+    mul_result
+    add_result
     returns)

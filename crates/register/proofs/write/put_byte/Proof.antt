@@ -5,8 +5,8 @@ use borrow.Author.Rules.{rules}
 use Rattle.register.proofs.write.put_byte.Statement.{statement}
 use Rattle.register.proofs.write.put_byte.Tie as tie
 
-slice-write-bytes : tie.Need-slice-write-bytes
-slice-write-bytes c = search rules
+slice_write_bytes : tie.Need-slice-write-bytes
+slice_write_bytes c = search rules
 
 same_length : tie.Need-same-length
 same_length c = search rules
@@ -14,8 +14,8 @@ same_length c = search rules
 returns : tie.Need-returns
 returns c = search rules
 
-returns-2 : tie.Need-returns-2
-returns-2 c = sym (set_out c.before.args.bytes.now c.before.args.i c.before.args.v c.if1.false)
+returns_2 : tie.Need-returns-2
+returns_2 c = sym (set_out c.before.args.bytes.now c.before.args.i c.before.args.v c.if1.false)
 
-pub put-byte-spec : {M : Type 1} → statement M
-put-byte-spec = tie.close (tie.spec slice-write-bytes same_length returns returns-2)
+pub put_byte_spec : {M : Type 1} → statement M
+put_byte_spec = tie.close (tie.spec slice_write_bytes same_length returns returns_2)

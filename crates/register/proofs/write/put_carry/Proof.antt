@@ -1,47 +1,47 @@
 -- The stores are the definition's, in its order.
-use Rattle.register.specs.Head.{putCarry}
+use Rattle.register.specs.Head.{put_carry}
 use borrow.Author.Rules.{rules}
 use Rattle.register.proofs.write.put_carry.Statement.{statement}
 use Rattle.register.proofs.write.put_carry.Tie as tie
 
-put-byte-requires : tie.Need-put-byte-requires
-put-byte-requires c κs = search rules
+put_byte_requires : tie.Need-put-byte-requires
+put_byte_requires c κs = search rules
 
-add-put-long : tie.Need-overflow-add-put-long
-add-put-long c = search rules
+add_put_long : tie.Need-overflow-add-put-long
+add_put_long c = search rules
 
-put-long-requires : tie.Need-put-long-requires
-put-long-requires c κs = search rules
+put_long_requires : tie.Need-put-long-requires
+put_long_requires c κs = search rules
 
-add-put-word : tie.Need-overflow-add-put-word
-add-put-word c = search rules
+add_put_word : tie.Need-overflow-add-put-word
+add_put_word c = search rules
 
-put-word-requires : tie.Need-put-word-requires
-put-word-requires c κs = search rules
+put_word_requires : tie.Need-put-word-requires
+put_word_requires c κs = search rules
 
-add-put-word-2 : tie.Need-overflow-add-put-word-2
-add-put-word-2 c = search rules
+add_put_word_2 : tie.Need-overflow-add-put-word-2
+add_put_word_2 c = search rules
 
-put-word-requires-2 : tie.Need-put-word-requires-2
-put-word-requires-2 c κs = search rules
+put_word_requires_2 : tie.Need-put-word-requires-2
+put_word_requires_2 c κs = search rules
 
 same_length : tie.Need-same-length
 same_length c = search rules
 
 returns : tie.Need-returns
-unfolding putCarry
+unfolding put_carry
 returns c = cc
 
-pub put-carry-spec : {M : Type 1} → statement M
-put-carry-spec =
+pub put_carry_spec : {M : Type 1} → statement M
+put_carry_spec =
     tie.close
     (tie.spec
-    put-byte-requires
-    add-put-long
-    put-long-requires
-    add-put-word
-    put-word-requires
-    add-put-word-2
-    put-word-requires-2
+    put_byte_requires
+    add_put_long
+    put_long_requires
+    add_put_word
+    put_word_requires
+    add_put_word_2
+    put_word_requires_2
     same_length
     returns)

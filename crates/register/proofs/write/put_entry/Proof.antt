@@ -1,14 +1,14 @@
 -- With all bytes there it is the other function's; else the stores are the definition's, in its order.
-use Rattle.register.specs.Entries.{putEntry}
+use Rattle.register.specs.Entries.{put_entry}
 use borrow.Author.Rules.{rules}
 use Rattle.register.proofs.write.put_entry.Statement.{statement}
 use Rattle.register.proofs.write.put_entry.Tie as tie
 
-add-if1 : tie.Need-overflow-add-if1
-add-if1 c = search rules
+add_if1 : tie.Need-overflow-add-if1
+add_if1 c = search rules
 
-put-within-requires : tie.Need-put-within-requires
-put-within-requires c κs = search rules
+put_within_requires : tie.Need-put-within-requires
+put_within_requires c κs = search rules
 
 same_length : tie.Need-same-length
 same_length c = search rules
@@ -16,64 +16,64 @@ same_length c = search rules
 returns : tie.Need-returns
 returns c = search rules
 
-put-byte-requires : tie.Need-put-byte-requires
-put-byte-requires c κs = search rules
+put_byte_requires : tie.Need-put-byte-requires
+put_byte_requires c κs = search rules
 
-add-put-word : tie.Need-overflow-add-put-word
-add-put-word c = search rules
+add_put_word : tie.Need-overflow-add-put-word
+add_put_word c = search rules
 
-put-word-requires : tie.Need-put-word-requires
-put-word-requires c κs = search rules
+put_word_requires : tie.Need-put-word-requires
+put_word_requires c κs = search rules
 
-add-put-long : tie.Need-overflow-add-put-long
-add-put-long c = search rules
+add_put_long : tie.Need-overflow-add-put-long
+add_put_long c = search rules
 
-put-long-requires : tie.Need-put-long-requires
-put-long-requires c κs = search rules
+put_long_requires : tie.Need-put-long-requires
+put_long_requires c κs = search rules
 
-add-put-byte : tie.Need-overflow-add-put-byte
-add-put-byte c = search rules
+add_put_byte : tie.Need-overflow-add-put-byte
+add_put_byte c = search rules
 
-put-byte-requires-2 : tie.Need-put-byte-requires-2
-put-byte-requires-2 c κs = search rules
+put_byte_requires_2 : tie.Need-put-byte-requires-2
+put_byte_requires_2 c κs = search rules
 
-add-put-byte-2 : tie.Need-overflow-add-put-byte-2
-add-put-byte-2 c = search rules
+add_put_byte_2 : tie.Need-overflow-add-put-byte-2
+add_put_byte_2 c = search rules
 
-put-byte-requires-3 : tie.Need-put-byte-requires-3
-put-byte-requires-3 c κs = search rules
+put_byte_requires_3 : tie.Need-put-byte-requires-3
+put_byte_requires_3 c κs = search rules
 
-add-put-byte-3 : tie.Need-overflow-add-put-byte-3
-add-put-byte-3 c = search rules
+add_put_byte_3 : tie.Need-overflow-add-put-byte-3
+add_put_byte_3 c = search rules
 
-put-byte-requires-4 : tie.Need-put-byte-requires-4
-put-byte-requires-4 c κs = search rules
+put_byte_requires_4 : tie.Need-put-byte-requires-4
+put_byte_requires_4 c κs = search rules
 
-same-length-2 : tie.Need-same-length-2
-same-length-2 c = search rules
+same_length_2 : tie.Need-same-length-2
+same_length_2 c = search rules
 
-returns-2 : tie.Need-returns-2
-unfolding putEntry
-returns-2 c = cc
+returns_2 : tie.Need-returns-2
+unfolding put_entry
+returns_2 c = cc
 
-pub put-entry-spec : {M : Type 1} → statement M
-put-entry-spec =
+pub put_entry_spec : {M : Type 1} → statement M
+put_entry_spec =
     tie.close
     (tie.spec
-    add-if1
-    put-within-requires
+    add_if1
+    put_within_requires
     same_length
     returns
-    put-byte-requires
-    add-put-word
-    put-word-requires
-    add-put-long
-    put-long-requires
-    add-put-byte
-    put-byte-requires-2
-    add-put-byte-2
-    put-byte-requires-3
-    add-put-byte-3
-    put-byte-requires-4
-    same-length-2
-    returns-2)
+    put_byte_requires
+    add_put_word
+    put_word_requires
+    add_put_long
+    put_long_requires
+    add_put_byte
+    put_byte_requires_2
+    add_put_byte_2
+    put_byte_requires_3
+    add_put_byte_3
+    put_byte_requires_4
+    same_length_2
+    returns_2)

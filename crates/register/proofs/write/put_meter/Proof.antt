@@ -1,29 +1,29 @@
 -- The stores are the definition's, in its order.
-use Rattle.register.specs.Head.{putMeter}
+use Rattle.register.specs.Head.{put_meter}
 use borrow.Author.Rules.{rules}
 use Rattle.register.proofs.write.put_meter.Statement.{statement}
 use Rattle.register.proofs.write.put_meter.Tie as tie
 
-meter-kind-requires : tie.Need-meter-kind-requires
-meter-kind-requires c κs = search rules
+meter_kind_requires : tie.Need-meter-kind-requires
+meter_kind_requires c κs = search rules
 
-put-byte-requires : tie.Need-put-byte-requires
-put-byte-requires c κs = search rules
+put_byte_requires : tie.Need-put-byte-requires
+put_byte_requires c κs = search rules
 
-put-byte-requires-2 : tie.Need-put-byte-requires-2
-put-byte-requires-2 c κs = search rules
+put_byte_requires_2 : tie.Need-put-byte-requires-2
+put_byte_requires_2 c κs = search rules
 
-put-long-requires : tie.Need-put-long-requires
-put-long-requires c κs = search rules
+put_long_requires : tie.Need-put-long-requires
+put_long_requires c κs = search rules
 
 same_length : tie.Need-same-length
 same_length c = search rules
 
 returns : tie.Need-returns
-unfolding putMeter
+unfolding put_meter
 returns c = cc
 
-pub put-meter-spec : {M : Type 1} → statement M
-put-meter-spec =
+pub put_meter_spec : {M : Type 1} → statement M
+put_meter_spec =
     tie.close
-    (tie.spec meter-kind-requires put-byte-requires put-byte-requires-2 put-long-requires same_length returns)
+    (tie.spec meter_kind_requires put_byte_requires put_byte_requires_2 put_long_requires same_length returns)

@@ -1,39 +1,39 @@
 -- The stores are the definition's, in its order.
-use Rattle.register.specs.Bytes.{putWord}
+use Rattle.register.specs.Bytes.{put_word}
 use borrow.Author.Rules.{rules}
 use Rattle.register.proofs.write.put_word.Statement.{statement}
 use Rattle.register.proofs.write.put_word.Tie as tie
 
-cast-put-byte : tie.Need-overflow-cast-put-byte
-cast-put-byte c = search rules
+cast_put_byte : tie.Need-overflow-cast-put-byte
+cast_put_byte c = search rules
 
-put-byte-requires : tie.Need-put-byte-requires
-put-byte-requires c κs = search rules
+put_byte_requires : tie.Need-put-byte-requires
+put_byte_requires c κs = search rules
 
-add-put-byte : tie.Need-overflow-add-put-byte
-add-put-byte c = search rules
+add_put_byte : tie.Need-overflow-add-put-byte
+add_put_byte c = search rules
 
-cast-put-byte-2 : tie.Need-overflow-cast-put-byte-2
-cast-put-byte-2 c = search rules
+cast_put_byte_2 : tie.Need-overflow-cast-put-byte-2
+cast_put_byte_2 c = search rules
 
-put-byte-requires-2 : tie.Need-put-byte-requires-2
-put-byte-requires-2 c κs = search rules
+put_byte_requires_2 : tie.Need-put-byte-requires-2
+put_byte_requires_2 c κs = search rules
 
 same_length : tie.Need-same-length
 same_length c = search rules
 
 returns : tie.Need-returns
-unfolding putWord
+unfolding put_word
 returns c = cc
 
-pub put-word-spec : {M : Type 1} → statement M
-put-word-spec =
+pub put_word_spec : {M : Type 1} → statement M
+put_word_spec =
     tie.close
     (tie.spec
-    cast-put-byte
-    put-byte-requires
-    add-put-byte
-    cast-put-byte-2
-    put-byte-requires-2
+    cast_put_byte
+    put_byte_requires
+    add_put_byte
+    cast_put_byte_2
+    put_byte_requires_2
     same_length
     returns)

@@ -1,41 +1,41 @@
 -- The three products are of advances, so they fit, and the tests see the definition's.
 use native.Mathlib.Omega.{arith}
-use Rattle.rules.specs.Detection.{plainAdvance, turnedAdvance, isLikeRate}
-use Rattle.rules.proofs.Laws.{AdvanceWord, advance-word, word-within, scaled-reads}
+use Rattle.rules.specs.Detection.{plain_advance, turned_advance, is_like_rate}
+use Rattle.rules.proofs.Laws.{AdvanceWord, advance_word, word_within, scaled_reads}
 use borrow.Author.Rules.{rules}
 use Rattle.rules.proofs.detection.is_like_rate.Statement.{statement}
 use Rattle.rules.proofs.detection.is_like_rate.Tie as tie
 
 module _ (c : tie.After-turned-advance) where
-  earlier : AdvanceWord c.before.advance.result (plainAdvance c.before.before.args.n c.before.before.args.r0 c.before.before.args.r1)
-  earlier = advance-word _ _ _ _ c.before.advance.ensures (omega arith) (omega arith) (omega arith)
+  earlier : AdvanceWord c.before.advance.result (plain_advance c.before.before.args.n c.before.before.args.r0 c.before.before.args.r1)
+  earlier = advance_word _ _ _ _ c.before.advance.ensures (omega arith) (omega arith) (omega arith)
 
-  turned : AdvanceWord c.turned-advance.result (turnedAdvance c.before.before.args.n c.before.before.args.s c.before.before.args.r0)
-  turned = advance-word _ _ _ _ c.turned-advance.ensures (omega arith) (omega arith) (omega arith)
+  turned : AdvanceWord c.turned_advance.result (turned_advance c.before.before.args.n c.before.before.args.s c.before.before.args.r0)
+  turned = advance_word _ _ _ _ c.turned_advance.ensures (omega arith) (omega arith) (omega arith)
 
-advance-requires : tie.Need-advance-requires
-advance-requires c κs = search rules
+advance_requires : tie.Need-advance-requires
+advance_requires c κs = search rules
 
-turned-advance-requires : tie.Need-turned-advance-requires
-turned-advance-requires c κs = c.before.requires
+turned_advance_requires : tie.Need-turned-advance-requires
+turned_advance_requires c κs = c.before.requires
 
-scaled-requires : tie.Need-scaled-requires
-scaled-requires c κs = word-within (turned c)
+scaled_requires : tie.Need-scaled-requires
+scaled_requires c κs = word_within (turned c)
 
-scaled-requires-2 : tie.Need-scaled-requires-2
-scaled-requires-2 c κs = word-within (earlier c.before)
+scaled_requires_2 : tie.Need-scaled-requires-2
+scaled_requires_2 c κs = word_within (earlier c.before)
 
-scaled-requires-3 : tie.Need-scaled-requires-3
-scaled-requires-3 c κs = word-within (earlier c.before.before)
+scaled_requires_3 : tie.Need-scaled-requires-3
+scaled_requires_3 c κs = word_within (earlier c.before.before)
 
-is-plain-requires : tie.Need-is-plain-requires
-is-plain-requires c κs = search rules
+is_plain_requires : tie.Need-is-plain-requires
+is_plain_requires c κs = search rules
 
-is-plain-requires-2 : tie.Need-is-plain-requires-2
-is-plain-requires-2 c κs = search rules
+is_plain_requires_2 : tie.Need-is-plain-requires-2
+is_plain_requires_2 c κs = search rules
 
 returns : tie.Need-returns
-unfolding isLikeRate
+unfolding is_like_rate
 returns c =
     let l = c.before.before.before.before.before in
     let rate = c.before.before.before.before.scaled in
@@ -43,21 +43,21 @@ returns c =
     let most = c.before.before.scaled3 in
     rw (
       c.before.is_plain.ensures,
-      c.is-plain2.ensures,
-      scaled-reads _ _ _ least.type-inv least.ensures (earlier l),
-      scaled-reads _ _ _ rate.type-inv rate.ensures (turned l),
-      scaled-reads _ _ _ most.type-inv most.ensures (earlier l),
+      c.is_plain2.ensures,
+      scaled_reads _ _ _ least.type_inv least.ensures (earlier l),
+      scaled_reads _ _ _ rate.type_inv rate.ensures (turned l),
+      scaled_reads _ _ _ most.type_inv most.ensures (earlier l),
     )
 
-pub is-like-rate-spec : {M : Type 1} → statement M
-is-like-rate-spec =
+pub is_like_rate_spec : {M : Type 1} → statement M
+is_like_rate_spec =
     tie.close
     (tie.spec
-    advance-requires
-    turned-advance-requires
-    scaled-requires
-    scaled-requires-2
-    scaled-requires-3
-    is-plain-requires
-    is-plain-requires-2
+    advance_requires
+    turned_advance_requires
+    scaled_requires
+    scaled_requires_2
+    scaled_requires_3
+    is_plain_requires
+    is_plain_requires_2
     returns)

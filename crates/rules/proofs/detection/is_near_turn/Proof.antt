@@ -1,45 +1,45 @@
 -- The marks are counted in a unit of at most 10^9, so they fit.
 use native.Mathlib.Omega.{arith}
 use Prim.Native.Nat.{◌≤◌}
-use Rattle.arithmetic.proofs.Laws.{ten-at-most}
-use Rattle.rules.specs.Detection.{isNearTurn}
+use Rattle.arithmetic.proofs.Laws.{ten_at_most}
+use Rattle.rules.specs.Detection.{is_near_turn}
 use borrow.Author.Rules.{rules}
 use Rattle.rules.proofs.detection.is_near_turn.Statement.{statement}
 use Rattle.rules.proofs.detection.is_near_turn.Tie as tie
 
-unit-at-most : (c : tie.After-mark-unit) → c.mark-unit.result ≤ 1000000000
-unit-at-most c = rw c.mark-unit.ensures (ten-at-most _)
+unit_at_most : (c : tie.After-mark-unit) → c.mark_unit.result ≤ 1000000000
+unit_at_most c = rw c.mark_unit.ensures (ten_at_most _)
 
-mark-unit-requires : tie.Need-mark-unit-requires
-mark-unit-requires c κs = search rules
+mark_unit_requires : tie.Need-mark-unit-requires
+mark_unit_requires c κs = search rules
 
-is-plain-requires : tie.Need-is-plain-requires
-is-plain-requires c κs = search rules
+is_plain_requires : tie.Need-is-plain-requires
+is_plain_requires c κs = search rules
 
-mul-result : tie.Need-overflow-mul-result
-mul-result c = omega (arith, unit-at-most c.before)
+mul_result : tie.Need-overflow-mul-result
+mul_result c = omega (arith, unit_at_most c.before)
 
-cast-result : tie.Need-overflow-cast-result
-cast-result c = search rules
+cast_result : tie.Need-overflow-cast-result
+cast_result c = search rules
 
-cast-result-2 : tie.Need-overflow-cast-result-2
-cast-result-2 c = search rules
+cast_result_2 : tie.Need-overflow-cast-result-2
+cast_result_2 c = search rules
 
-mul-result-2 : tie.Need-overflow-mul-result-2
-mul-result-2 c = omega (arith, unit-at-most c.before.before.before)
+mul_result_2 : tie.Need-overflow-mul-result-2
+mul_result_2 c = omega (arith, unit_at_most c.before.before.before)
 
 returns : tie.Need-returns
-unfolding isNearTurn
-returns c = rw (c.before.before.is_plain.ensures, c.before.before.before.mark-unit.ensures)
+unfolding is_near_turn
+returns c = rw (c.before.before.is_plain.ensures, c.before.before.before.mark_unit.ensures)
 
-pub is-near-turn-spec : {M : Type 1} → statement M
-is-near-turn-spec =
+pub is_near_turn_spec : {M : Type 1} → statement M
+is_near_turn_spec =
     tie.close
     (tie.spec
-    mark-unit-requires
-    is-plain-requires
-    mul-result
-    cast-result
-    cast-result-2
-    mul-result-2
+    mark_unit_requires
+    is_plain_requires
+    mul_result
+    cast_result
+    cast_result_2
+    mul_result_2
     returns)

@@ -3,38 +3,38 @@
 use mathlib.Core.Path.{◌≡◌, refl}
 use mathlib.Core.Bool.{true}
 use lib.Dec.{lit<, lit≤}
-use Rattle.calendar.specs.Year.{isLeap, yearLength, yearStart}
-use Rattle.calendar.specs.Month.{hasThirty, lengthIn, monthLength}
-use Rattle.calendar.specs.Date.{next, after, dateOf}
+use Rattle.calendar.specs.Year.{is_leap, year_length, year_start}
+use Rattle.calendar.specs.Month.{has_thirty, length_in, month_length}
+use Rattle.calendar.specs.Date.{next, after, date_of}
 use Rattle.calendar.specs.Inner.Placed.{YearAt}
-use Rattle.calendar.proofs.Dates.{year-at-date}
-use Rattle.arithmetic.specs.Powers.{tenTo}
-use Rattle.arithmetic.specs.Advance.{advanceOf}
-use Rattle.terms.specs.Entry.{slot_at, recentOf}
-use Rattle.terms.specs.Letter.{isUnchecked}
-use Rattle.rules.specs.Settings.{stepBack}
-use Rattle.rules.specs.Detection.{is_plain, scaledOf, isSmallStep, isNotRollover, isNearTurn, isLikeRate, isSmallPart, isSmallTurn, isSmallAdvance, isRollover, detected}
-use Rattle.rules.specs.Indicator.{indicated, indicatedNumber, indicatedFlag}
-use Rattle.rules.specs.Volume.{advanceOver, hasVolumeCheck, hasThreshold, comparedWith, compared, comparedNumber, daysInYear, isWithinCapacity, isLowVolume, isHighVolume, isOverCapacity, volumeNumber}
-use Rattle.rules.specs.Edges.{plain, edges, moreEdges, edgesOf2100, standingReads, submittedRead, detectedAt, number_at, holdsAt, holdAt, EdgesHold}
+use Rattle.calendar.proofs.Dates.{year_at_date}
+use Rattle.arithmetic.specs.Powers.{ten_to}
+use Rattle.arithmetic.specs.Advance.{advance_of}
+use Rattle.terms.specs.Entry.{slot_at, recent_of}
+use Rattle.terms.specs.Letter.{is_unchecked}
+use Rattle.rules.specs.Settings.{step_back}
+use Rattle.rules.specs.Detection.{is_plain, scaled_of, is_small_step, is_not_rollover, is_near_turn, is_like_rate, is_small_part, is_small_turn, is_small_advance, is_rollover, detected}
+use Rattle.rules.specs.Indicator.{indicated, indicated_number, indicated_flag}
+use Rattle.rules.specs.Volume.{advance_over, has_volume_check, has_threshold, compared_with, compared, compared_number, days_in_year, is_within_capacity, is_low_volume, is_high_volume, is_over_capacity, volume_number}
+use Rattle.rules.specs.Edges.{plain, edges, more_edges, edges_of2100, standing_reads, submitted_read, detected_at, number_at, holds_at, hold_at, EdgesHold}
 use Rattle.rules.proofs.edges.edges_hold.Statement.{statement}
 use Rattle.rules.proofs.edges.edges_hold.Tie as tie
 
 -- ---- the row of 2100, which is the 100th year after 2000
-starts-2100 : YearAt 36536 100
-unfolding yearStart yearLength isLeap
-starts-2100 = record { held = lit< tt; from = lit≤ tt; to = lit< tt }
+starts_2100 : YearAt 36536 100
+unfolding year_start year_length is_leap
+starts_2100 = record { held = lit< tt; from = lit≤ tt; to = lit< tt }
 
-year-2100 : (dateOf 36536).year ≡ 2100
-year-2100 = year-at-date 36536 100 starts-2100 (lit≤ tt)
+year_2100 : (date_of 36536).year ≡ 2100
+year_2100 = year_at_date 36536 100 starts_2100 (lit≤ tt)
 
-row-2100 : holdAt edgesOf2100 ≡ true
-unfolding isLeap yearLength tenTo advanceOf slot_at recentOf isUnchecked is_plain scaledOf stepBack isSmallStep isNotRollover isNearTurn isLikeRate isSmallPart isSmallTurn isSmallAdvance isRollover detected indicated indicatedNumber indicatedFlag advanceOver hasVolumeCheck hasThreshold comparedWith compared comparedNumber daysInYear isWithinCapacity isLowVolume isHighVolume isOverCapacity volumeNumber plain edgesOf2100 standingReads submittedRead detectedAt number_at holdsAt holdAt
-row-2100 = rw year-2100
+row_2100 : hold_at edges_of2100 ≡ true
+unfolding is_leap year_length ten_to advance_of slot_at recent_of is_unchecked is_plain scaled_of step_back is_small_step is_not_rollover is_near_turn is_like_rate is_small_part is_small_turn is_small_advance is_rollover detected indicated indicated_number indicated_flag advance_over has_volume_check has_threshold compared_with compared compared_number days_in_year is_within_capacity is_low_volume is_high_volume is_over_capacity volume_number plain edges_of2100 standing_reads submitted_read detected_at number_at holds_at hold_at
+row_2100 = rw year_2100
 
 returns : tie.Need-returns
-unfolding isLeap yearLength hasThirty lengthIn monthLength next after dateOf tenTo advanceOf slot_at recentOf isUnchecked is_plain scaledOf stepBack isSmallStep isNotRollover isNearTurn isLikeRate isSmallPart isSmallTurn isSmallAdvance isRollover detected indicated indicatedNumber indicatedFlag advanceOver hasVolumeCheck hasThreshold comparedWith compared comparedNumber daysInYear isWithinCapacity isLowVolume isHighVolume isOverCapacity volumeNumber plain edges moreEdges standingReads submittedRead detectedAt number_at holdsAt holdAt EdgesHold
-returns c = (refl, refl, row-2100)
+unfolding is_leap year_length has_thirty length_in month_length next after date_of ten_to advance_of slot_at recent_of is_unchecked is_plain scaled_of step_back is_small_step is_not_rollover is_near_turn is_like_rate is_small_part is_small_turn is_small_advance is_rollover detected indicated indicated_number indicated_flag advance_over has_volume_check has_threshold compared_with compared compared_number days_in_year is_within_capacity is_low_volume is_high_volume is_over_capacity volume_number plain edges more_edges standing_reads submitted_read detected_at number_at holds_at hold_at EdgesHold
+returns c = (refl, refl, row_2100)
 
-pub edges-hold-spec : {M : Type 1} → statement M
-edges-hold-spec = tie.close (tie.spec returns)
+pub edges_hold_spec : {M : Type 1} → statement M
+edges_hold_spec = tie.close (tie.spec returns)

@@ -12,47 +12,47 @@ returns : tie.Need-returns
 unfolding indicated
 returns c = rw (c.before.enum_told.given.1, c.if1.true)
 
-enum-told-2 : tie.Need-enum-told-2
-enum-told-2 c = search rules
+enum_told_2 : tie.Need-enum-told-2
+enum_told_2 c = search rules
 
-returns-2 : tie.Need-returns-2
+returns_2 : tie.Need-returns-2
 unfolding indicated
-returns-2 c = rw (c.before.enum-told2.given.1, c.if2.true)
+returns_2 c = rw (c.before.enum_told2.given.1, c.if2.true)
 
-enum-told-3 : tie.Need-enum-told-3
-enum-told-3 c = search rules
+enum_told_3 : tie.Need-enum-told-3
+enum_told_3 c = search rules
 
-returns-3 : tie.Need-returns-3
+returns_3 : tie.Need-returns-3
 unfolding indicated
-returns-3 c = rw (c.before.enum-told3.given.1, c.if3.true)
+returns_3 c = rw (c.before.enum_told3.given.1, c.if3.true)
 
-returns-4 : tie.Need-returns-4
+returns_4 : tie.Need-returns-4
 unfolding indicated
-returns-4 c = rw (c.before.before.enum-told3.given.1, c.if4.true)
+returns_4 c = rw (c.before.before.enum_told3.given.1, c.if4.true)
 
-returns-5 : tie.Need-returns-5
+returns_5 : tie.Need-returns-5
 unfolding indicated
-returns-5 c = rw (c.before.enum_told.given.1, ne_eqb _ _ c.if1.false)
+returns_5 c = rw (c.before.enum_told.given.1, ne_eqb _ _ c.if1.false)
 
-returns-6 : tie.Need-returns-6
+returns_6 : tie.Need-returns-6
 unfolding indicated
-returns-6 c = rw (c.before.enum-told2.given.1, ne_eqb _ _ c.if2.false)
+returns_6 c = rw (c.before.enum_told2.given.1, ne_eqb _ _ c.if2.false)
 
-returns-7 : tie.Need-returns-7
+returns_7 : tie.Need-returns-7
 unfolding indicated
-returns-7 c = rw (c.before.before.enum-told3.given.1, ne_eqb _ _ c.before.if3.false, ne_eqb _ _ c.if4.false)
+returns_7 c = rw (c.before.before.enum_told3.given.1, ne_eqb _ _ c.before.if3.false, ne_eqb _ _ c.if4.false)
 
-pub indicate-spec : {M : Type 1} → statement M
-indicate-spec =
+pub indicate_spec : {M : Type 1} → statement M
+indicate_spec =
     tie.close
     (tie.spec
     enum_told
     returns
-    enum-told-2
-    returns-2
-    enum-told-3
-    returns-3
-    returns-4
-    returns-5
-    returns-6
-    returns-7)
+    enum_told_2
+    returns_2
+    enum_told_3
+    returns_3
+    returns_4
+    returns_5
+    returns_6
+    returns_7)

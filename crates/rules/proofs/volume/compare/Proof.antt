@@ -7,8 +7,8 @@ use mir.Syntax.{w64}
 use mir.Val.{to_z, of_z}
 use native.Mathlib.Omega.{arith}
 use Rattle.arithmetic.proofs.Signed.{word_of}
-use Rattle.rules.specs.Volume.{lastAdvance, hasThreshold, compared}
-use Rattle.rules.proofs.Laws.{AdvanceWord, advance-word, word-within}
+use Rattle.rules.specs.Volume.{last_advance, has_threshold, compared}
+use Rattle.rules.proofs.Laws.{AdvanceWord, advance_word, word_within}
 use borrow.Author.Rules.{rules}
 use Rattle.rules.proofs.volume.compare.Statement.{statement}
 use Rattle.rules.proofs.volume.compare.Tie as tie
@@ -18,17 +18,17 @@ module _ (c : tie.After-advance) where
   start = c.before.before.before.before
 
   abbrev p : ℤ
-  p = lastAdvance start.args.n start.args.r0 c.before.before.second.given.0.0
+  p = last_advance start.args.n start.args.r0 c.before.before.second.given.0.0
 
   earlier : AdvanceWord c.advance.result p
-  earlier = advance-word _ _ _ _ c.advance.ensures (omega arith) (omega arith) (omega arith)
+  earlier = advance_word _ _ _ _ c.advance.ensures (omega arith) (omega arith) (omega arith)
 
 -- what the test sees
-asked : (c : tie.After-has-threshold) → c.has-threshold.result && lt_z (pos 0) (to_z w64 (of_z w64 c.before.advance.result)) ≡ hasThreshold (start c.before).args.s && lt_z (pos 0) (p c.before)
-asked c = ap₂ ◌&&◌ c.has-threshold.ensures (ap (lt_z (pos 0)) (earlier c.before).reads)
+asked : (c : tie.After-has-threshold) → c.has_threshold.result && lt_z (pos 0) (to_z w64 (of_z w64 c.before.advance.result)) ≡ has_threshold (start c.before).args.s && lt_z (pos 0) (p c.before)
+asked c = ap₂ ◌&&◌ c.has_threshold.ensures (ap (lt_z (pos 0)) (earlier c.before).reads)
 
-enum-known-second : tie.Need-enum-known-second
-enum-known-second c = search rules
+enum_known_second : tie.Need-enum-known-second
+enum_known_second c = search rules
 
 enum_told : tie.Need-enum-told
 enum_told c = search rules
@@ -37,41 +37,41 @@ returns : tie.Need-returns
 unfolding compared
 returns c = rw c.enum_told.given.1
 
-advance-requires : tie.Need-advance-requires
-advance-requires c κs = search rules
+advance_requires : tie.Need-advance-requires
+advance_requires c κs = search rules
 
-has-threshold-requires : tie.Need-has-threshold-requires
-has-threshold-requires c κs = search rules
+has_threshold_requires : tie.Need-has-threshold-requires
+has_threshold_requires c κs = search rules
 
-compare-with-requires : tie.Need-compare-with-requires
-compare-with-requires c κs = (word-within (word_of (start c.before.before).pre tt), word-within (earlier c.before.before))
+compare_with_requires : tie.Need-compare-with-requires
+compare_with_requires c κs = (word_within (word_of (start c.before.before).pre tt), word_within (earlier c.before.before))
 
-returns-2 : tie.Need-returns-2
+returns_2 : tie.Need-returns-2
 unfolding compared
-returns-2 c =
+returns_2 c =
     let b = c.before.before.before in
     rw (
       b.before.before.second.given.1,
       ← asked c.before.before,
       c.before.if1.true,
-      c.compare-with.ensures,
+      c.compare_with.ensures,
       (word_of (start b).requires tt).reads,
       (earlier b).reads,
     )
 
-returns-3 : tie.Need-returns-3
+returns_3 : tie.Need-returns-3
 unfolding compared
-returns-3 c = rw (c.before.before.before.before.second.given.1, ← asked c.before, c.if1.false)
+returns_3 c = rw (c.before.before.before.before.second.given.1, ← asked c.before, c.if1.false)
 
-pub compare-spec : {M : Type 1} → statement M
-compare-spec =
+pub compare_spec : {M : Type 1} → statement M
+compare_spec =
     tie.close
     (tie.spec
-    enum-known-second
+    enum_known_second
     enum_told
     returns
-    advance-requires
-    has-threshold-requires
-    compare-with-requires
-    returns-2
-    returns-3)
+    advance_requires
+    has_threshold_requires
+    compare_with_requires
+    returns_2
+    returns_3)

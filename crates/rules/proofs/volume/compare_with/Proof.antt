@@ -6,10 +6,10 @@ use lib.Signed.{lt_z}
 use mir.Syntax.{w64}
 use mir.Val.{to_z, of_z}
 use Rattle.arithmetic.proofs.Signed.{word_of}
-use Rattle.rules.specs.Settings.{wholePercent, lowPercent, highPercent}
-use Rattle.rules.specs.Detection.{scaledOf}
-use Rattle.rules.specs.Volume.{comparedWith}
-use Rattle.rules.proofs.Laws.{AdvanceWord, word-within, scaled-reads}
+use Rattle.rules.specs.Settings.{whole_percent, low_percent, high_percent}
+use Rattle.rules.specs.Detection.{scaled_of}
+use Rattle.rules.specs.Volume.{compared_with}
+use Rattle.rules.proofs.Laws.{AdvanceWord, word_within, scaled_reads}
 use Rattle.rules.proofs.volume.compare_with.Statement.{statement}
 use Rattle.rules.proofs.volume.compare_with.Tie as tie
 
@@ -22,49 +22,49 @@ module _ (c : tie.Start) where
 
   -- the three products
   abbrev rate : ℤ
-  rate = scaledOf wholePercent c.args.a c.args.r0.day c.args.r1.day
+  rate = scaled_of whole_percent c.args.a c.args.r0.day c.args.r1.day
 
   abbrev low : ℤ
-  low = scaledOf lowPercent c.args.p c.args.s.day c.args.r0.day
+  low = scaled_of low_percent c.args.p c.args.s.day c.args.r0.day
 
   abbrev high : ℤ
-  high = scaledOf highPercent c.args.p c.args.s.day c.args.r0.day
+  high = scaled_of high_percent c.args.p c.args.s.day c.args.r0.day
 
-rate-reads : (c : tie.After-scaled) → to_z w64 (of_z w64 c.scaled.result) ≡ rate c.before
-rate-reads c = scaled-reads _ _ _ c.scaled.type-inv c.scaled.ensures (current c.before)
+rate_reads : (c : tie.After-scaled) → to_z w64 (of_z w64 c.scaled.result) ≡ rate c.before
+rate_reads c = scaled_reads _ _ _ c.scaled.type_inv c.scaled.ensures (current c.before)
 
 -- what the two tests see
-low-test : (c : tie.After-scaled2) → lt_z (to_z w64 (of_z w64 c.before.scaled.result)) (to_z w64 (of_z w64 c.scaled2.result)) ≡ lt_z (rate c.before.before) (low c.before.before)
-low-test c = ap₂ lt_z (rate-reads c.before) (scaled-reads _ _ _ c.scaled2.type-inv c.scaled2.ensures (earlier c.before.before))
+low_test : (c : tie.After-scaled2) → lt_z (to_z w64 (of_z w64 c.before.scaled.result)) (to_z w64 (of_z w64 c.scaled2.result)) ≡ lt_z (rate c.before.before) (low c.before.before)
+low_test c = ap₂ lt_z (rate_reads c.before) (scaled_reads _ _ _ c.scaled2.type_inv c.scaled2.ensures (earlier c.before.before))
 
 not_low : (c : tie.Else1) → lt_z (rate c.before.before.before) (low c.before.before.before) ≡ false
-not_low c = sym (low-test c.before) ∙ c.if1.false
+not_low c = sym (low_test c.before) ∙ c.if1.false
 
-high-test : (c : tie.After-scaled3) → lt_z (to_z w64 (of_z w64 c.scaled3.result)) (to_z w64 (of_z w64 c.before.before.before.scaled.result)) ≡ lt_z (high c.before.before.before.before) (rate c.before.before.before.before)
-high-test c = ap₂ lt_z (scaled-reads _ _ _ c.scaled3.type-inv c.scaled3.ensures (earlier c.before.before.before.before)) (rate-reads c.before.before.before)
+high_test : (c : tie.After-scaled3) → lt_z (to_z w64 (of_z w64 c.scaled3.result)) (to_z w64 (of_z w64 c.before.before.before.scaled.result)) ≡ lt_z (high c.before.before.before.before) (rate c.before.before.before.before)
+high_test c = ap₂ lt_z (scaled_reads _ _ _ c.scaled3.type_inv c.scaled3.ensures (earlier c.before.before.before.before)) (rate_reads c.before.before.before)
 
-scaled-requires : tie.Need-scaled-requires
-scaled-requires c κs = word-within (current c)
+scaled_requires : tie.Need-scaled-requires
+scaled_requires c κs = word_within (current c)
 
-scaled-requires-2 : tie.Need-scaled-requires-2
-scaled-requires-2 c κs = word-within (earlier c.before)
+scaled_requires_2 : tie.Need-scaled-requires-2
+scaled_requires_2 c κs = word_within (earlier c.before)
 
 returns : tie.Need-returns
-unfolding comparedWith
-returns c = rw (sym (low-test c.before) ∙ c.if1.true)
+unfolding compared_with
+returns c = rw (sym (low_test c.before) ∙ c.if1.true)
 
-scaled-requires-3 : tie.Need-scaled-requires-3
-scaled-requires-3 c κs = word-within (earlier c.before.before.before)
+scaled_requires_3 : tie.Need-scaled-requires-3
+scaled_requires_3 c κs = word_within (earlier c.before.before.before)
 
-returns-2 : tie.Need-returns-2
-unfolding comparedWith
-returns-2 c = rw (not_low c.before.before, sym (high-test c.before) ∙ c.if2.true)
+returns_2 : tie.Need-returns-2
+unfolding compared_with
+returns_2 c = rw (not_low c.before.before, sym (high_test c.before) ∙ c.if2.true)
 
-returns-3 : tie.Need-returns-3
-unfolding comparedWith
-returns-3 c = rw (not_low c.before.before, sym (high-test c.before) ∙ c.if2.false)
+returns_3 : tie.Need-returns-3
+unfolding compared_with
+returns_3 c = rw (not_low c.before.before, sym (high_test c.before) ∙ c.if2.false)
 
-pub compare-with-spec : {M : Type 1} → statement M
-compare-with-spec =
+pub compare_with_spec : {M : Type 1} → statement M
+compare_with_spec =
     tie.close
-    (tie.spec scaled-requires scaled-requires-2 returns scaled-requires-3 returns-2 returns-3)
+    (tie.spec scaled_requires scaled_requires_2 returns scaled_requires_3 returns_2 returns_3)

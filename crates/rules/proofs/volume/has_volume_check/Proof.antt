@@ -1,15 +1,15 @@
 -- The code is the definition, test for test.
-use Rattle.rules.specs.Volume.{hasVolumeCheck}
+use Rattle.rules.specs.Volume.{has_volume_check}
 use borrow.Author.Rules.{rules}
 use Rattle.rules.proofs.volume.has_volume_check.Statement.{statement}
 use Rattle.rules.proofs.volume.has_volume_check.Tie as tie
 
-is-unchecked-requires : tie.Need-is-unchecked-requires
-is-unchecked-requires c κs = search rules
+is_unchecked_requires : tie.Need-is-unchecked-requires
+is_unchecked_requires c κs = search rules
 
 returns : tie.Need-returns
-unfolding hasVolumeCheck
-returns c = rw c.is-unchecked.ensures
+unfolding has_volume_check
+returns c = rw c.is_unchecked.ensures
 
-pub has-volume-check-spec : {M : Type 1} → statement M
-has-volume-check-spec = tie.close (tie.spec is-unchecked-requires returns)
+pub has_volume_check_spec : {M : Type 1} → statement M
+has_volume_check_spec = tie.close (tie.spec is_unchecked_requires returns)

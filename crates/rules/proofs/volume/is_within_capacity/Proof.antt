@@ -3,8 +3,8 @@ use native.Mathlib.Omega.{arith}
 use lib.IntN.{pos, ◌-ℤ◌}
 use mir.Syntax.{w64}
 use mir.Val.{to_z, of_z}
-use Rattle.arithmetic.proofs.Signed.{Word, word-cast, word_of, word-difference, word-product, fits-difference, fits-product}
-use Rattle.rules.specs.Volume.{isWithinCapacity}
+use Rattle.arithmetic.proofs.Signed.{Word, word_cast, word_of, word_difference, word_product, fits_difference, fits_product}
+use Rattle.rules.specs.Volume.{is_within_capacity}
 use Rattle.rules.proofs.Laws.{AdvanceWord}
 use borrow.Author.Rules.{rules}
 use Rattle.rules.proofs.volume.is_within_capacity.Statement.{statement}
@@ -17,57 +17,57 @@ module _ (c : tie.After-days-in-year) where
   current : AdvanceWord start.args.a start.args.a
   current = word_of start.pre tt
 
-  year : Word c.days-in-year.result (pos c.days-in-year.result) 65535
-  year = word-cast (omega arith) tt
+  year : Word c.days_in_year.result (pos c.days_in_year.result) 65535
+  year = word_cast (omega arith) tt
 
   allowed : Word start.args.capacity (pos start.args.capacity) 4294967295
-  allowed = word-cast (omega arith) tt
+  allowed = word_cast (omega arith) tt
 
   days : Word (of_z w64 (to_z w64 start.args.s.day -ℤ to_z w64 start.args.r0.day)) (pos start.args.s.day -ℤ pos start.args.r0.day) 65535
-  days = word-difference start.args.s.day start.args.r0.day 65535 (omega arith) (omega arith) tt
+  days = word_difference start.args.s.day start.args.r0.day 65535 (omega arith) (omega arith) tt
 
-days-in-year-requires : tie.Need-days-in-year-requires
-days-in-year-requires c κs = search rules
+days_in_year_requires : tie.Need-days-in-year-requires
+days_in_year_requires c κs = search rules
 
-cast-result : tie.Need-overflow-cast-result
-cast-result c = search rules
+cast_result : tie.Need-overflow-cast-result
+cast_result c = search rules
 
-mul-result : tie.Need-overflow-mul-result
-mul-result c = fits-product (current c) (year c) tt
+mul_result : tie.Need-overflow-mul-result
+mul_result c = fits_product (current c) (year c) tt
 
-cast-result-2 : tie.Need-overflow-cast-result-2
-cast-result-2 c = search rules
+cast_result_2 : tie.Need-overflow-cast-result-2
+cast_result_2 c = search rules
 
-cast-result-3 : tie.Need-overflow-cast-result-3
-cast-result-3 c = search rules
+cast_result_3 : tie.Need-overflow-cast-result-3
+cast_result_3 c = search rules
 
-cast-result-4 : tie.Need-overflow-cast-result-4
-cast-result-4 c = search rules
+cast_result_4 : tie.Need-overflow-cast-result-4
+cast_result_4 c = search rules
 
-sub-result : tie.Need-overflow-sub-result
-sub-result c =
+sub_result : tie.Need-overflow-sub-result
+sub_result c =
     let b = c.before.before in
-    fits-difference (start b).args.s.day (start b).args.r0.day 65535 (omega arith) (omega arith) tt
+    fits_difference (start b).args.s.day (start b).args.r0.day 65535 (omega arith) (omega arith) tt
 
-mul-result-2 : tie.Need-overflow-mul-result-2
-mul-result-2 c = fits-product (allowed c.before.before) (days c.before.before) tt
+mul_result_2 : tie.Need-overflow-mul-result-2
+mul_result_2 c = fits_product (allowed c.before.before) (days c.before.before) tt
 
 returns : tie.Need-returns
-unfolding isWithinCapacity
+unfolding is_within_capacity
 returns c =
     let b = c.before.before in
-    rw (← b.days-in-year.ensures, (word-product (current b) (year b) tt).reads, (word-product (allowed b) (days b) tt).reads)
+    rw (← b.days_in_year.ensures, (word_product (current b) (year b) tt).reads, (word_product (allowed b) (days b) tt).reads)
 
-pub is-within-capacity-spec : {M : Type 1} → statement M
-is-within-capacity-spec =
+pub is_within_capacity_spec : {M : Type 1} → statement M
+is_within_capacity_spec =
     tie.close
     (tie.spec
-    days-in-year-requires
-    cast-result
-    mul-result
-    cast-result-2
-    cast-result-3
-    cast-result-4
-    sub-result
-    mul-result-2
+    days_in_year_requires
+    cast_result
+    mul_result
+    cast_result_2
+    cast_result_3
+    cast_result_4
+    sub_result
+    mul_result_2
     returns)

@@ -4,18 +4,18 @@ use borrow.Author.Rules.{rules}
 use Rattle.sheet.proofs.body.withdraw_at.Statement.{statement}
 use Rattle.sheet.proofs.body.withdraw_at.Tie as tie
 
-place-at-requires : tie.Need-place-at-requires
-place-at-requires c κs = search rules
+place_at_requires : tie.Need-place-at-requires
+place_at_requires c κs = search rules
 
-word-at-requires : tie.Need-word-at-requires
-word-at-requires c κs = search rules
+word_at_requires : tie.Need-word-at-requires
+word_at_requires c κs = search rules
 
-long-at-requires : tie.Need-long-at-requires
-long-at-requires c κs = search rules
+long_at_requires : tie.Need-long-at-requires
+long_at_requires c κs = search rules
 
 returns : tie.Need-returns
 unfolding call_at
 returns c = cc
 
-pub withdraw-at-spec : {M : Type 1} → statement M
-withdraw-at-spec = tie.close (tie.spec place-at-requires word-at-requires long-at-requires returns)
+pub withdraw_at_spec : {M : Type 1} → statement M
+withdraw_at_spec = tie.close (tie.spec place_at_requires word_at_requires long_at_requires returns)

@@ -6,22 +6,22 @@ use Prim.Native.Nat.{ℕ, suc}
 use native.Mathlib.Omega.{arith}
 use borrow.Author.Tests.{lt-ltb, le-ltb}
 use lib.ListN.{length}
-use Rattle.register.specs.Bytes.{word_at, longAt}
-use Rattle.sheet.specs.Sheet.{kindByte, call_at, kindIn, kind_of, entryAt, next_at, nextNumber, sheetMost, goOn, splitFrom, splitOf}
+use Rattle.register.specs.Bytes.{word_at, long_at}
+use Rattle.sheet.specs.Sheet.{kind_byte, call_at, kind_in, kind_of, entry_at, next_at, next_number, sheet_most, go_on, split_from, split_of}
 use Rattle.sheet.proofs.claims.examples_hold.Statement.{statement}
 use Rattle.sheet.proofs.claims.examples_hold.Tie as tie
 
 module _ (sheet : List ℕ) where
-  allowed : length sheet ≡ 60000 → splitOf sheet ≡ splitFrom (suc (length sheet)) sheet 0
-  unfolding splitOf
-  allowed e = rw (le-ltb sheetMost (length sheet) (omega (arith, e)))
+  allowed : length sheet ≡ 60000 → split_of sheet ≡ split_from (suc (length sheet)) sheet 0
+  unfolding split_of
+  allowed e = rw (le-ltb sheet_most (length sheet) (omega (arith, e)))
 
-  over : length sheet ≡ 60001 → splitOf sheet ≡ record { calls = []; faulty = true }
-  unfolding splitOf
-  over e = rw (lt-ltb sheetMost (length sheet) (omega (arith, e)))
+  over : length sheet ≡ 60001 → split_of sheet ≡ record { calls = []; faulty = true }
+  unfolding split_of
+  over e = rw (lt-ltb sheet_most (length sheet) (omega (arith, e)))
 
 returns : tie.Need-returns
-unfolding word_at longAt kindByte call_at kindIn kind_of entryAt next_at nextNumber goOn splitFrom splitOf
+unfolding word_at long_at kind_byte call_at kind_in kind_of entry_at next_at next_number go_on split_from split_of
 returns c =
     record {
       enrolled = refl;
@@ -29,24 +29,24 @@ returns c =
       withdrawn = refl;
       reported = refl;
       folded = refl;
-      pseudo-enrolled = refl;
-      enrolment-cut = refl;
-      submission-cut = refl;
-      withdrawal-cut = refl;
-      report-cut = refl;
-      fold-cut = refl;
-      pseudo-enrolment-cut = refl;
+      pseudo_enrolled = refl;
+      enrolment_cut = refl;
+      submission_cut = refl;
+      withdrawal_cut = refl;
+      report_cut = refl;
+      fold_cut = refl;
+      pseudo_enrolment_cut = refl;
       kind_0 = refl;
-      kind-7 = refl;
-      fault-number = refl;
+      kind_7 = refl;
+      fault_number = refl;
       second = refl;
-      at-the-end = refl;
+      at_the_end = refl;
       empty = refl;
-      no-fault = refl;
-      third-a-fault = refl;
+      no_fault = refl;
+      third_a_fault = refl;
       longest = allowed;
       too_long = over;
     }
 
-pub examples-hold-spec : {M : Type 1} → statement M
-examples-hold-spec = tie.close (tie.spec returns)
+pub examples_hold_spec : {M : Type 1} → statement M
+examples_hold_spec = tie.close (tie.spec returns)

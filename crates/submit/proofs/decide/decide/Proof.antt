@@ -8,8 +8,8 @@ use lib.ListN.{length}
 use lib.Seq.{take_all}
 use Rattle.register.specs.Area.{area_bytes}
 use Rattle.judge.specs.declared.area.Judged.{Judged}
-use Rattle.judge.proofs.Verdicts.{judged-counted, withdrawn-counted}
-use Rattle.calls.specs.Checks.{isWithdrawnRead}
+use Rattle.judge.proofs.Verdicts.{judged_counted, withdrawn_counted}
+use Rattle.calls.specs.Checks.{is_withdrawn_read}
 use Rattle.submit.proofs.Stages.{Means, means}
 use borrow.Author.Rules.{rules}
 use Rattle.submit.proofs.decide.decide.Statement.{statement}
@@ -19,72 +19,72 @@ use Rattle.submit.proofs.decide.decide.Tie as tie
 all_of : (area : List ℕ) → length area ≡ area_bytes → mid_of 0 (area_bytes - 0) area ≡ area
 all_of area size = take_all area_bytes area (omega (arith, size))
 
-meant : (c : tie.After-judge-area) {found : Judged} → c.judge-area.result.found ≡ found → Means c.before.before.args.s c.before.before.args.area.now found
-meant c h = rw (sym c.judge-area.ensures.0.found-is ∙ h) at (means c.before.before.args.s c.before.before.args.area.now c.before.before.requires)
+meant : (c : tie.After-judge-area) {found : Judged} → c.judge_area.result.found ≡ found → Means c.before.before.args.s c.before.before.args.area.now found
+meant c h = rw (sym c.judge_area.ensures.0.found_is ∙ h) at (means c.before.before.args.s c.before.before.args.area.now c.before.before.requires)
 
-judge-area-requires : tie.Need-judge-area-requires
-judge-area-requires c κs = search rules
+judge_area_requires : tie.Need-judge-area-requires
+judge_area_requires c κs = search rules
 
 enum_told : tie.Need-enum-told
 enum_told c = search rules
 
-refused-requires : tie.Need-refused-requires
-refused-requires c κs = search rules
+refused_requires : tie.Need-refused-requires
+refused_requires c κs = search rules
 
-enum-told-2 : tie.Need-enum-told-2
-enum-told-2 c = search rules
+enum_told_2 : tie.Need-enum-told-2
+enum_told_2 c = search rules
 
-refused-requires-2 : tie.Need-refused-requires-2
-refused-requires-2 c κs = search rules
+refused_requires_2 : tie.Need-refused-requires-2
+refused_requires_2 c κs = search rules
 
-enum-known-found : tie.Need-enum-known-found
-enum-known-found c = search rules
+enum_known_found : tie.Need-enum-known-found
+enum_known_found c = search rules
 
-sub-whole : tie.Need-overflow-sub-whole
-sub-whole c = search rules
+sub_whole : tie.Need-overflow-sub-whole
+sub_whole c = search rules
 
-part-whole-start : tie.Need-slice-bounds-whole-start
-part-whole-start c = search rules
+part_whole_start : tie.Need-slice-bounds-whole-start
+part_whole_start c = search rules
 
-part-whole-end : tie.Need-slice-bounds-whole-end
-part-whole-end c = omega (arith, c.before.before.before.before.before.requires)
+part_whole_end : tie.Need-slice-bounds-whole-end
+part_whole_end c = omega (arith, c.before.before.before.before.before.requires)
 
-decide-sound-requires : tie.Need-decide-sound-requires
-unfolding isWithdrawnRead
-decide-sound-requires c κs =
+decide_sound_requires : tie.Need-decide-sound-requires
+unfolding is_withdrawn_read
+decide_sound_requires c κs =
     let judged = c.before.before.before.before in
     let start = judged.before.before in
     let area = start.args.area.now in
     let e = c.before.before.found.given.1 in
-    let counted = judged-counted area (rw e at judged.judge-area.ensures.0) in
-    rw (all_of area start.requires) (counted, withdrawn-counted area counted judged.judge-area.ensures.1 e)
+    let counted = judged_counted area (rw e at judged.judge_area.ensures.0) in
+    rw (all_of area start.requires) (counted, withdrawn_counted area counted judged.judge_area.ensures.1 e)
 
 returns : tie.Need-returns
 returns c = c.refused.ensures ∙ sym (meant c.before.before.before c.before.enum_told.given.1)
 
-returns-2 : tie.Need-returns-2
-returns-2 c = c.refused2.ensures ∙ sym (meant c.before.before.before c.before.enum-told2.given.1)
+returns_2 : tie.Need-returns-2
+returns_2 c = c.refused2.ensures ∙ sym (meant c.before.before.before c.before.enum_told2.given.1)
 
-returns-3 : tie.Need-returns-3
-returns-3 c =
+returns_3 : tie.Need-returns-3
+returns_3 c =
     let judged = c.before.before.before.before.before in
     let start = judged.before.before in
-    rw (all_of start.args.area.now start.requires) at c.decide-sound.ensures ∙ sym (meant judged c.before.before.before.found.given.1)
+    rw (all_of start.args.area.now start.requires) at c.decide_sound.ensures ∙ sym (meant judged c.before.before.before.found.given.1)
 
-pub decide-spec : {M : Type 1} → statement M
-decide-spec =
+pub decide_spec : {M : Type 1} → statement M
+decide_spec =
     tie.close
     (tie.spec
-    judge-area-requires
+    judge_area_requires
     enum_told
-    refused-requires
-    enum-told-2
-    refused-requires-2
-    enum-known-found
-    sub-whole
-    part-whole-start
-    part-whole-end
-    decide-sound-requires
+    refused_requires
+    enum_told_2
+    refused_requires_2
+    enum_known_found
+    sub_whole
+    part_whole_start
+    part_whole_end
+    decide_sound_requires
     returns
-    returns-2
-    returns-3)
+    returns_2
+    returns_3)

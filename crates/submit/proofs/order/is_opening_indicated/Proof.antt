@@ -1,15 +1,15 @@
 -- The code is the definition, test for test.
-use Rattle.calls.specs.Checks.{isOpeningIndicated}
+use Rattle.calls.specs.Checks.{is_opening_indicated}
 use borrow.Author.Rules.{rules}
 use Rattle.submit.proofs.order.is_opening_indicated.Statement.{statement}
 use Rattle.submit.proofs.order.is_opening_indicated.Tie as tie
 
-is-opening-requires : tie.Need-is-opening-requires
-is-opening-requires c κs = search rules
+is_opening_requires : tie.Need-is-opening-requires
+is_opening_requires c κs = search rules
 
 returns : tie.Need-returns
-unfolding isOpeningIndicated
-returns c = rw c.before.is-opening.ensures
+unfolding is_opening_indicated
+returns c = rw c.before.is_opening.ensures
 
-pub is-opening-indicated-spec : {M : Type 1} → statement M
-is-opening-indicated-spec = tie.close (tie.spec is-opening-requires returns)
+pub is_opening_indicated_spec : {M : Type 1} → statement M
+is_opening_indicated_spec = tie.close (tie.spec is_opening_requires returns)

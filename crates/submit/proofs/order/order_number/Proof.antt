@@ -1,9 +1,9 @@
 -- The first test that holds decides, in the order of the group.
 use mathlib.Core.Path.{◌≡◌, ap}
 use Rattle.judge.specs.declared.area.Summary.{Summary}
-use Rattle.journal.specs.Journal.{journalOf, kept}
-use Rattle.judge.specs.Inner.Judged.{countsOf, summaryOf}
-use Rattle.calls.specs.Checks.{orderRules}
+use Rattle.journal.specs.Journal.{journal_of, kept}
+use Rattle.judge.specs.Inner.Judged.{counts_of, summary_of}
+use Rattle.calls.specs.Checks.{order_rules}
 use borrow.Author.Rules.{rules}
 use Rattle.submit.proofs.order.order_number.Statement.{statement}
 use Rattle.submit.proofs.order.order_number.Tie as tie
@@ -13,110 +13,110 @@ start c = c.before.before.before
 
 -- what was counted of the journal
 module _ (c : tie.Start) where
-  head-is : c.args.t.head ≡ (journalOf c.args.area.now).head
-  unfolding summaryOf
-  head-is = ap (λ (t : Summary). t.head) c.requires.summary
+  head_is : c.args.t.head ≡ (journal_of c.args.area.now).head
+  unfolding summary_of
+  head_is = ap (λ (t : Summary). t.head) c.requires.summary
 
-  kept-is : c.args.t.counts.kept ≡ kept (journalOf c.args.area.now).entries
-  unfolding summaryOf countsOf
-  kept-is = ap (λ (t : Summary). t.counts.kept) c.requires.summary
+  kept_is : c.args.t.counts.kept ≡ kept (journal_of c.args.area.now).entries
+  unfolding summary_of counts_of
+  kept_is = ap (λ (t : Summary). t.counts.kept) c.requires.summary
 
-is-back-dated-requires : tie.Need-is-back-dated-requires
-is-back-dated-requires c κs = search rules
+is_back_dated_requires : tie.Need-is-back-dated-requires
+is_back_dated_requires c κs = search rules
 
 returns : tie.Need-returns
-unfolding orderRules
+unfolding order_rules
 returns c =
     λ d o.
     rw (
-      ← c.before.is-back-dated.ensures _ (start c.before).requires.summary d o,
+      ← c.before.is_back_dated.ensures _ (start c.before).requires.summary d o,
       c.if1.true,
     )
 
-is-unopened-requires : tie.Need-is-unopened-requires
-is-unopened-requires c κs = search rules
+is_unopened_requires : tie.Need-is-unopened-requires
+is_unopened_requires c κs = search rules
 
-returns-2 : tie.Need-returns-2
-unfolding orderRules
-returns-2 c =
+returns_2 : tie.Need-returns-2
+unfolding order_rules
+returns_2 c =
     let e₁ = c.before.before in
     λ d o.
     rw (
-      ← e₁.before.is-back-dated.ensures _ (start e₁.before).requires.summary d o,
+      ← e₁.before.is_back_dated.ensures _ (start e₁.before).requires.summary d o,
       e₁.if1.false,
-      ← c.before.is-unopened.ensures _ (start e₁.before).requires.summary,
+      ← c.before.is_unopened.ensures _ (start e₁.before).requires.summary,
       c.if2.true,
     )
 
-is-at-later-requires : tie.Need-is-at-later-requires
-is-at-later-requires c κs = search rules
+is_at_later_requires : tie.Need-is-at-later-requires
+is_at_later_requires c κs = search rules
 
-returns-3 : tie.Need-returns-3
-unfolding orderRules
-returns-3 c =
+returns_3 : tie.Need-returns-3
+unfolding order_rules
+returns_3 c =
     let e₂ = c.before.before in
     let e₁ = e₂.before.before in
     λ d o.
     rw (
-      ← e₁.before.is-back-dated.ensures _ (start e₁.before).requires.summary d o,
+      ← e₁.before.is_back_dated.ensures _ (start e₁.before).requires.summary d o,
       e₁.if1.false,
-      ← e₂.before.is-unopened.ensures _ (start e₁.before).requires.summary,
+      ← e₂.before.is_unopened.ensures _ (start e₁.before).requires.summary,
       e₂.if2.false,
-      ← c.before.is-at-later.ensures _ (start e₁.before).requires.summary,
+      ← c.before.is_at_later.ensures _ (start e₁.before).requires.summary,
       c.if3.true,
     )
 
-is-opening-indicated-requires : tie.Need-is-opening-indicated-requires
-is-opening-indicated-requires c κs = search rules
+is_opening_indicated_requires : tie.Need-is-opening-indicated-requires
+is_opening_indicated_requires c κs = search rules
 
-returns-4 : tie.Need-returns-4
-unfolding orderRules
-returns-4 c =
+returns_4 : tie.Need-returns-4
+unfolding order_rules
+returns_4 c =
     let e₃ = c.before.before in
     let e₂ = e₃.before.before in
     let e₁ = e₂.before.before in
     λ d o.
     rw (
-      ← e₁.before.is-back-dated.ensures _ (start e₁.before).requires.summary d o,
+      ← e₁.before.is_back_dated.ensures _ (start e₁.before).requires.summary d o,
       e₁.if1.false,
-      ← e₂.before.is-unopened.ensures _ (start e₁.before).requires.summary,
+      ← e₂.before.is_unopened.ensures _ (start e₁.before).requires.summary,
       e₂.if2.false,
-      ← e₃.before.is-at-later.ensures _ (start e₁.before).requires.summary,
+      ← e₃.before.is_at_later.ensures _ (start e₁.before).requires.summary,
       e₃.if3.false,
-      ← c.before.is-opening-indicated.ensures,
+      ← c.before.is_opening_indicated.ensures,
       c.if4.true,
     )
 
-is-unheld-reread-requires : tie.Need-is-unheld-reread-requires
-is-unheld-reread-requires c κs = (start c.before.before.before.before.before.before.before).requires
+is_unheld_reread_requires : tie.Need-is-unheld-reread-requires
+is_unheld_reread_requires c κs = (start c.before.before.before.before.before.before.before).requires
 
-returns-5 : tie.Need-returns-5
-unfolding orderRules
-returns-5 c =
+returns_5 : tie.Need-returns-5
+unfolding order_rules
+returns_5 c =
     let e₄ = c.before.before in
     let e₃ = e₄.before.before in
     let e₂ = e₃.before.before in
     let e₁ = e₂.before.before in
     λ d o.
     rw (
-      ← e₁.before.is-back-dated.ensures _ (start e₁.before).requires.summary d o,
+      ← e₁.before.is_back_dated.ensures _ (start e₁.before).requires.summary d o,
       e₁.if1.false,
-      ← e₂.before.is-unopened.ensures _ (start e₁.before).requires.summary,
+      ← e₂.before.is_unopened.ensures _ (start e₁.before).requires.summary,
       e₂.if2.false,
-      ← e₃.before.is-at-later.ensures _ (start e₁.before).requires.summary,
+      ← e₃.before.is_at_later.ensures _ (start e₁.before).requires.summary,
       e₃.if3.false,
-      ← e₄.before.is-opening-indicated.ensures,
+      ← e₄.before.is_opening_indicated.ensures,
       e₄.if4.false,
-      ← c.before.is-unheld-reread.ensures,
+      ← c.before.is_unheld_reread.ensures,
       c.if5.true,
     )
 
-is-full-requires : tie.Need-is-full-requires
-is-full-requires c κs = search rules
+is_full_requires : tie.Need-is-full-requires
+is_full_requires c κs = search rules
 
-returns-6 : tie.Need-returns-6
-unfolding orderRules
-returns-6 c =
+returns_6 : tie.Need-returns-6
+unfolding order_rules
+returns_6 c =
     let e₅ = c.before.before in
     let e₄ = e₅.before.before in
     let e₃ = e₄.before.before in
@@ -124,23 +124,23 @@ returns-6 c =
     let e₁ = e₂.before.before in
     λ d o.
     rw (
-      ← e₁.before.is-back-dated.ensures _ (start e₁.before).requires.summary d o,
+      ← e₁.before.is_back_dated.ensures _ (start e₁.before).requires.summary d o,
       e₁.if1.false,
-      ← e₂.before.is-unopened.ensures _ (start e₁.before).requires.summary,
+      ← e₂.before.is_unopened.ensures _ (start e₁.before).requires.summary,
       e₂.if2.false,
-      ← e₃.before.is-at-later.ensures _ (start e₁.before).requires.summary,
+      ← e₃.before.is_at_later.ensures _ (start e₁.before).requires.summary,
       e₃.if3.false,
-      ← e₄.before.is-opening-indicated.ensures,
+      ← e₄.before.is_opening_indicated.ensures,
       e₄.if4.false,
-      ← e₅.before.is-unheld-reread.ensures,
+      ← e₅.before.is_unheld_reread.ensures,
       e₅.if5.false,
-      ← c.before.is-full.ensures _ (head-is (start e₁.before)) (kept-is (start e₁.before)),
+      ← c.before.is_full.ensures _ (head_is (start e₁.before)) (kept_is (start e₁.before)),
       c.if6.true,
     )
 
-returns-7 : tie.Need-returns-7
-unfolding orderRules
-returns-7 c =
+returns_7 : tie.Need-returns-7
+unfolding order_rules
+returns_7 c =
     let e₅ = c.before.before in
     let e₄ = e₅.before.before in
     let e₃ = e₄.before.before in
@@ -148,34 +148,34 @@ returns-7 c =
     let e₁ = e₂.before.before in
     λ d o.
     rw (
-      ← e₁.before.is-back-dated.ensures _ (start e₁.before).requires.summary d o,
+      ← e₁.before.is_back_dated.ensures _ (start e₁.before).requires.summary d o,
       e₁.if1.false,
-      ← e₂.before.is-unopened.ensures _ (start e₁.before).requires.summary,
+      ← e₂.before.is_unopened.ensures _ (start e₁.before).requires.summary,
       e₂.if2.false,
-      ← e₃.before.is-at-later.ensures _ (start e₁.before).requires.summary,
+      ← e₃.before.is_at_later.ensures _ (start e₁.before).requires.summary,
       e₃.if3.false,
-      ← e₄.before.is-opening-indicated.ensures,
+      ← e₄.before.is_opening_indicated.ensures,
       e₄.if4.false,
-      ← e₅.before.is-unheld-reread.ensures,
+      ← e₅.before.is_unheld_reread.ensures,
       e₅.if5.false,
-      ← c.before.is-full.ensures _ (head-is (start e₁.before)) (kept-is (start e₁.before)),
+      ← c.before.is_full.ensures _ (head_is (start e₁.before)) (kept_is (start e₁.before)),
       c.if6.false,
     )
 
-pub order-number-spec : {M : Type 1} → statement M
-order-number-spec =
+pub order_number_spec : {M : Type 1} → statement M
+order_number_spec =
     tie.close
     (tie.spec
-    is-back-dated-requires
+    is_back_dated_requires
     returns
-    is-unopened-requires
-    returns-2
-    is-at-later-requires
-    returns-3
-    is-opening-indicated-requires
-    returns-4
-    is-unheld-reread-requires
-    returns-5
-    is-full-requires
-    returns-6
-    returns-7)
+    is_unopened_requires
+    returns_2
+    is_at_later_requires
+    returns_3
+    is_opening_indicated_requires
+    returns_4
+    is_unheld_reread_requires
+    returns_5
+    is_full_requires
+    returns_6
+    returns_7)

@@ -11,12 +11,12 @@ returns : tie.Need-returns
 unfolding answer_of
 returns c = rw (c.before.if1.true, to_z-of_z w64 c.before.before.before.args.d.advance (record { sfits = c.struct_told.given.1.1.0.1 }))
 
-refuse-requires : tie.Need-refuse-requires
-refuse-requires c κs = search rules
+refuse_requires : tie.Need-refuse-requires
+refuse_requires c κs = search rules
 
-returns-2 : tie.Need-returns-2
+returns_2 : tie.Need-returns-2
 unfolding answer_of
-returns-2 c = rw (ne_eqb _ _ c.before.if1.false) c.refuse.ensures
+returns_2 c = rw (ne_eqb _ _ c.before.if1.false) c.refuse.ensures
 
-pub answer-spec : {M : Type 1} → statement M
-answer-spec = tie.close (tie.spec returns refuse-requires returns-2)
+pub answer_spec : {M : Type 1} → statement M
+answer_spec = tie.close (tie.spec returns refuse_requires returns_2)

@@ -5,14 +5,14 @@ use borrow.Author.Rules.{rules}
 use Rattle.submit.proofs.submit.submit_in.Statement.{statement}
 use Rattle.submit.proofs.submit.submit_in.Tie as tie
 
-decide-requires : tie.Need-decide-requires
-decide-requires c κs = c.before.before.requires
+decide_requires : tie.Need-decide-requires
+decide_requires c κs = c.before.before.requires
 
-store-requires : tie.Need-store-requires
-store-requires c κs = search rules
+store_requires : tie.Need-store-requires
+store_requires c κs = search rules
 
-answer-requires : tie.Need-answer-requires
-answer-requires c κs = search rules
+answer_requires : tie.Need-answer-requires
+answer_requires c κs = search rules
 
 same_length : tie.Need-same-length
 same_length c = search rules
@@ -24,6 +24,6 @@ returns c =
     let start = decided.before.before.before in
     rw (c.answer.ensures, stored.store.ensures, decided.decide.ensures) (sym (follows start.args.s start.args.area.now))
 
-pub submit-in-spec : {M : Type 1} → statement M
-submit-in-spec =
-    tie.close (tie.spec decide-requires store-requires answer-requires same_length returns)
+pub submit_in_spec : {M : Type 1} → statement M
+submit_in_spec =
+    tie.close (tie.spec decide_requires store_requires answer_requires same_length returns)

@@ -6,14 +6,14 @@ use borrow.Author.Rules.{rules}
 use Rattle.tally.proofs.change.made_to.Statement.{statement}
 use Rattle.tally.proofs.change.made_to.Tie as tie
 
-tally-number-requires : tie.Need-tally-number-requires
-tally-number-requires c κs = search rules
+tally_number_requires : tie.Need-tally-number-requires
+tally_number_requires c κs = search rules
 
 returns : tie.Need-returns
-returns c = rw (eq-eqb _ accepted (sym c.before.tally-number.ensures ∙ c.if1.true))
+returns c = rw (eq-eqb _ accepted (sym c.before.tally_number.ensures ∙ c.if1.true))
 
-returns-2 : tie.Need-returns-2
-returns-2 c = rw (ne_eqb _ accepted (λ e. c.if1.false (c.before.tally-number.ensures ∙ e)))
+returns_2 : tie.Need-returns-2
+returns_2 c = rw (ne_eqb _ accepted (λ e. c.if1.false (c.before.tally_number.ensures ∙ e)))
 
-pub made-to-spec : {M : Type 1} → statement M
-made-to-spec = tie.close (tie.spec tally-number-requires returns returns-2)
+pub made_to_spec : {M : Type 1} → statement M
+made_to_spec = tie.close (tie.spec tally_number_requires returns returns_2)

@@ -5,7 +5,7 @@ use lib.IntN.{negsuc, nat_abs}
 use lib.Signed.{mag, nat_abs-le}
 use mir.Syntax.{w64}
 use mir.ValLaws.{to_z-of_z}
-use Rattle.arithmetic.proofs.Negated.{is_negative, is-natural}
+use Rattle.arithmetic.proofs.Negated.{is_negative, is_natural}
 use Rattle.tally.proofs.Moves.{up, down, out}
 use borrow.Author.Rules.{rules}
 use Rattle.tally.proofs.change.move_by.Statement.{statement}
@@ -17,8 +17,8 @@ size c = rw (to_z-of_z w64 c.before.args.advance c.before.ranges.advance) at c.m
 negative : (c : tie.Then1) → let z = c.before.before.args.advance in z ≡ negsuc (mag z)
 negative c = is_negative c.before.before.args.advance c.before.before.ranges.advance c.if1.true
 
-magnitude-requires : tie.Need-magnitude-requires
-magnitude-requires c κs = search rules
+magnitude_requires : tie.Need-magnitude-requires
+magnitude_requires c κs = search rules
 
 returns : tie.Need-returns
 returns c =
@@ -26,39 +26,39 @@ returns c =
     let a = m.before.args in
     sym (out a.limit a.from a.advance (negative c.before) (rw (size m) at c.if2.true))
 
-shown-requires : tie.Need-shown-requires
-shown-requires c κs = search rules
+shown_requires : tie.Need-shown-requires
+shown_requires c κs = search rules
 
-returns-2 : tie.Need-returns-2
-returns-2 c =
+returns_2 : tie.Need-returns-2
+returns_2 c =
     let m = c.before.before.before in
     let a = m.before.args in
     c.shown.ensures
     ∙ rw (size m) (sym (down a.limit a.from a.advance (negative c.before.before) (rw (size m) at c.before.if2.false)))
 
-add-shown : tie.Need-overflow-add-shown
-add-shown c =
+add_shown : tie.Need-overflow-add-shown
+add_shown c =
     let start = c.before.before in
     omega (arith, size c.before, nat_abs-le start.args.advance start.ranges.advance.sfits, start.requires)
 
-shown-requires-2 : tie.Need-shown-requires-2
-shown-requires-2 c κs = search rules
+shown_requires_2 : tie.Need-shown-requires-2
+shown_requires_2 c κs = search rules
 
-returns-3 : tie.Need-returns-3
-returns-3 c =
+returns_3 : tie.Need-returns-3
+returns_3 c =
     let m = c.before.before in
     let a = m.before.args in
     c.shown2.ensures
-    ∙ rw (size m) (sym (up a.limit a.from a.advance (is-natural a.advance m.before.ranges.advance c.before.if1.false)))
+    ∙ rw (size m) (sym (up a.limit a.from a.advance (is_natural a.advance m.before.ranges.advance c.before.if1.false)))
 
-pub move-by-spec : {M : Type 1} → statement M
-move-by-spec =
+pub move_by_spec : {M : Type 1} → statement M
+move_by_spec =
     tie.close
     (tie.spec
-    magnitude-requires
+    magnitude_requires
     returns
-    shown-requires
-    returns-2
-    add-shown
-    shown-requires-2
-    returns-3)
+    shown_requires
+    returns_2
+    add_shown
+    shown_requires_2
+    returns_3)

@@ -6,22 +6,22 @@ use borrow.Author.Tests.{eqb-false, eq-eqb, ne_eqb, ltb-false}
 use lib.Dec.{eqb, ltb}
 use mir.Syntax.{w64}
 use mir.ValLaws.{to_z-of_z}
-use Rattle.arithmetic.specs.Powers.{tenTo}
+use Rattle.arithmetic.specs.Powers.{ten_to}
 use Rattle.terms.specs.Number.{accepted}
 use Rattle.journal.proofs.Bools.{neither}
-use Rattle.tally.specs.Tally.{tallyNumber}
-use Rattle.tally.specs.Change.{withoutRead}
+use Rattle.tally.specs.Tally.{tally_number}
+use Rattle.tally.specs.Change.{without_read}
 use Rattle.tally.specs.Inner.Moved.{moved_to}
-use Rattle.tally.proofs.Withdrawals.{too_few, moved_out, moved-to}
+use Rattle.tally.proofs.Withdrawals.{too_few, moved_out, moved_to_lem}
 use borrow.Author.Rules.{rules}
 use Rattle.tally.proofs.change.withdraw.Statement.{statement}
 use Rattle.tally.proofs.change.withdraw.Tie as tie
 
-tally-number-requires : tie.Need-tally-number-requires
-tally-number-requires c κs = search rules
+tally_number_requires : tie.Need-tally-number-requires
+tally_number_requires c κs = search rules
 
-may-change : (c : tie.Else1) → tallyNumber c.before.before.args.t ≡ accepted
-may-change c = sym c.before.tally-number.ensures ∙ c.if1.false
+may_change : (c : tie.Else1) → tally_number c.before.before.args.t ≡ accepted
+may_change c = sym c.before.tally_number.ensures ∙ c.if1.false
 
 -- no number would be below 0
 enough : (c : tie.Else2) →
@@ -35,66 +35,66 @@ enough c =
 
 moved : (c : tie.After-last-without) →
     let a = c.before.before.before.before.before.before.args in
-    moved_to (tenTo a.t.dials) (withoutRead a.flag a.advance a.t).last ≡ c.last-without.result
+    moved_to (ten_to a.t.dials) (without_read a.flag a.advance a.t).last ≡ c.last_without_lem.result
 moved c =
     let start = c.before.before.before.before.before.before in
-    sym (rw (to_z-of_z w64 start.args.advance start.ranges.advance) at c.last-without.ensures)
+    sym (rw (to_z-of_z w64 start.args.advance start.ranges.advance) at c.last_without_lem.ensures)
 
 returns : tie.Need-returns
-returns c = rw (ne_eqb _ accepted (λ e. c.if1.true (c.before.tally-number.ensures ∙ e)))
+returns c = rw (ne_eqb _ accepted (λ e. c.if1.true (c.before.tally_number.ensures ∙ e)))
 
-returns-2 : tie.Need-returns-2
-returns-2 c =
+returns_2 : tie.Need-returns-2
+returns_2 c =
     let e = c.before.before.before in
     let a = e.before.before.args in
-    rw (eq-eqb _ accepted (may-change e)) (sym (too_few a.t a.flag a.advance c.if2.true))
+    rw (eq-eqb _ accepted (may_change e)) (sym (too_few a.t a.flag a.advance c.if2.true))
 
-last-without-requires : tie.Need-last-without-requires
-last-without-requires c κs = search rules
+last_without_requires : tie.Need-last-without-requires
+last_without_requires c κs = search rules
 
-enum-known-last : tie.Need-enum-known-last
-enum-known-last c = search rules
+enum_known_last : tie.Need-enum-known-last
+enum_known_last c = search rules
 
-without-requires : tie.Need-without-requires
-without-requires c κs = enough c.before.before.before.before
+without_requires : tie.Need-without-requires
+without_requires c κs = enough c.before.before.before.before
 
-made-to-requires : tie.Need-made-to-requires
-made-to-requires c κs = search rules
+made_to_requires : tie.Need-made-to-requires
+made_to_requires c κs = search rules
 
 enum_told : tie.Need-enum-told
 enum_told c = search rules
 
-returns-3 : tie.Need-returns-3
-returns-3 c =
+returns_3 : tie.Need-returns-3
+returns_3 c =
     let w = c.before in
     let l = w.before.before.before.before in
     let e = l.before in
     let start = e.before.before.before.before.before in
     let a = start.args in
     let few = enough e in
-    c.made-to.ensures
-    ∙ rw (w.without.ensures, eq-eqb _ accepted (may-change e.before.before.before))
-    (sym (moved-to a.t a.flag a.advance w.before.before.last.given.0.0 (moved l ∙ w.before.before.last.given.1) few.0 few.1))
+    c.made_to.ensures
+    ∙ rw (w.without.ensures, eq-eqb _ accepted (may_change e.before.before.before))
+    (sym (moved_to_lem a.t a.flag a.advance w.before.before.last.given.0.0 (moved l ∙ w.before.before.last.given.1) few.0 few.1))
 
-returns-4 : tie.Need-returns-4
-returns-4 c =
+returns_4 : tie.Need-returns-4
+returns_4 c =
     let l = c.before.before in
     let e = l.before in
     let a = e.before.before.before.before.before.args in
-    rw (eq-eqb _ accepted (may-change e.before.before.before))
+    rw (eq-eqb _ accepted (may_change e.before.before.before))
     (sym (moved_out a.t a.flag a.advance (moved l ∙ c.enum_told.given.1)))
 
-pub withdraw-spec : {M : Type 1} → statement M
-withdraw-spec =
+pub withdraw_spec : {M : Type 1} → statement M
+withdraw_spec =
     tie.close
     (tie.spec
-    tally-number-requires
+    tally_number_requires
     returns
-    returns-2
-    last-without-requires
-    enum-known-last
-    without-requires
-    made-to-requires
+    returns_2
+    last_without_requires
+    enum_known_last
+    without_requires
+    made_to_requires
     enum_told
-    returns-3
-    returns-4)
+    returns_3
+    returns_4)

@@ -1,119 +1,119 @@
 -- Every example computes to what it says.
 use mathlib.Core.Path.{refl}
-use Rattle.arithmetic.specs.Powers.{tenTo}
-use Rattle.arithmetic.specs.Advance.{advanceOf}
+use Rattle.arithmetic.specs.Powers.{ten_to}
+use Rattle.arithmetic.specs.Advance.{advance_of}
 use Rattle.calls.specs.Calls.{place_of}
-use Rattle.calls.specs.Play.{number_of, isTrial, names}
-use Rattle.tally.specs.Tally.{is_zero, hasOtherDials, isNoValue, isBroken, tallyNumber, tallyTotal, tallyReport}
-use Rattle.tally.specs.Change.{tallyFor, mayBe, madeTo, enrolled, withRead, lastWithout, withoutRead, taken, tallyAfter}
-use Rattle.tally.specs.Kept.{tallyOver, isDated, areDated}
+use Rattle.calls.specs.Play.{number_of, is_trial, names}
+use Rattle.tally.specs.Tally.{is_zero, has_other_dials, is_no_value, is_broken, tally_number, tally_total, tally_report}
+use Rattle.tally.specs.Change.{tally_for, may_be, made_to, enrolled, with_read, last_without, without_read, taken, tally_after}
+use Rattle.tally.specs.Kept.{tally_over, is_dated, are_dated}
 use Rattle.tally.specs.Examples.{year}
 use Rattle.tally.proofs.claims.tally_examples_hold.Statement.{statement}
 use Rattle.tally.proofs.claims.tally_examples_hold.Tie as tie
 
 returns : tie.Need-returns
-unfolding tenTo advanceOf place_of number_of isTrial names is_zero hasOtherDials isNoValue isBroken tallyNumber tallyTotal tallyReport tallyFor mayBe madeTo enrolled withRead lastWithout withoutRead taken tallyAfter tallyOver isDated areDated year
+unfolding ten_to advance_of place_of number_of is_trial names is_zero has_other_dials is_no_value is_broken tally_number tally_total tally_report tally_for may_be made_to enrolled with_read last_without without_read taken tally_after tally_over is_dated are_dated year
 returns c =
     record {
       zero = refl;
-      zero-but-standing = refl;
-      zero-but-flagged = refl;
-      zero-but-first = refl;
-      zero-but-last = refl;
-      two-dials = refl;
-      three-dials = refl;
-      nine-dials = refl;
-      ten-dials = refl;
-      largest-first = refl;
-      first-past-the-dials = refl;
-      largest-last = refl;
-      last-past-the-dials = refl;
-      largest-of-nine = refl;
-      past-nine-dials = refl;
-      first-of-none = refl;
-      last-of-none = refl;
-      all-flagged = refl;
-      flagged-above = refl;
-      flagged-of-none = refl;
-      most-standing = refl;
-      standing-above = refl;
-      zero-report = refl;
-      broken-report = refl;
-      none-report = refl;
-      one-report = refl;
-      two-report = refl;
-      back-report = refl;
-      turned-report = refl;
-      two-turns-report = refl;
-      most-report = refl;
+      zero_but_standing = refl;
+      zero_but_flagged = refl;
+      zero_but_first = refl;
+      zero_but_last = refl;
+      two_dials = refl;
+      three_dials = refl;
+      nine_dials = refl;
+      ten_dials = refl;
+      largest_first = refl;
+      first_past_the_dials = refl;
+      largest_last = refl;
+      last_past_the_dials = refl;
+      largest_of_nine = refl;
+      past_nine_dials = refl;
+      first_of_none = refl;
+      last_of_none = refl;
+      all_flagged = refl;
+      flagged_above = refl;
+      flagged_of_none = refl;
+      most_standing_row = refl;
+      standing_above = refl;
+      zero_report = refl;
+      broken_report = refl;
+      none_report = refl;
+      one_report = refl;
+      two_report = refl;
+      back_report = refl;
+      turned_report = refl;
+      two_turns_report = refl;
+      most_report = refl;
       enrols = refl;
-      enrols-pseudo = refl;
-      enrols-three = refl;
-      enrols-nine = refl;
-      two-not-enrolled = refl;
-      ten-not-enrolled = refl;
-      refused-not-enrolled = refl;
-      zero-takes-no-read = refl;
-      zero-takes-no-value = refl;
-      zero-takes-no-withdrawal = refl;
-      zero-takes-no-fold = refl;
-      not-enrolled-again = refl;
-      reads-not-enrolled-over = refl;
-      broken-not-enrolled = refl;
+      enrols_pseudo = refl;
+      enrols_three = refl;
+      enrols_nine = refl;
+      two_not_enrolled = refl;
+      ten_not_enrolled = refl;
+      refused_not_enrolled = refl;
+      zero_takes_no_read = refl;
+      zero_takes_no_value = refl;
+      zero_takes_no_withdrawal = refl;
+      zero_takes_no_fold = refl;
+      not_enrolled_again = refl;
+      reads_not_enrolled_over = refl;
+      broken_not_enrolled = refl;
       first_read = refl;
-      first-read-flagged = refl;
-      second-read = refl;
-      flag-counted = refl;
-      flags-counted = refl;
-      first-of-0-kept = refl;
-      refused-not-counted = refl;
-      low-not-counted = refl;
-      high-not-counted = refl;
+      first_read_flagged = refl;
+      second_read = refl;
+      flag_counted = refl;
+      flags_counted = refl;
+      first_of_0_kept = refl;
+      refused_not_counted = refl;
+      low_not_counted = refl;
+      high_not_counted = refl;
       taken_back = refl;
-      taken-back-over-the-turn = refl;
-      two-turns-taken-back = refl;
-      step-back-taken-back = refl;
-      withdrawal-refused = refl;
-      only-read-gone = refl;
-      only-read-gone-whatever-advance = refl;
-      only-flagged-gone = refl;
-      fold-changes-nothing = refl;
-      no-fold-changes-nothing = refl;
-      report-changes-nothing = refl;
-      trial-changes-nothing = refl;
-      low-trial-changes-nothing = refl;
-      enrol-reported = refl;
-      submit-reported = refl;
-      withdraw-reported = refl;
-      fold-reported = refl;
-      report-answered = refl;
-      from-first-of-none = refl;
-      from-a-last-too-large = refl;
-      from-flagged-above = refl;
-      back-from-a-last-too-large = refl;
-      back-from-standing-above = refl;
-      largest-read = refl;
-      to-a-value-too-large = refl;
-      to-a-first-too-large = refl;
-      last-that-may-stand = refl;
-      to-standing-above = refl;
-      to-flagged-above = refl;
-      back-to-flagged-above = refl;
-      back-to-the-largest = refl;
-      back-to-a-last-too-large = refl;
-      back-by-a-turn-too-many = refl;
-      none-to-withdraw = refl;
-      no-flag-to-take-off = refl;
-      back-to-0 = refl;
-      back-below-0 = refl;
-      back-far-below-0 = refl;
-      over-a-year = refl;
-      elsewhere-over-a-year = refl;
-      nowhere-over-a-year = refl;
-      last-day = refl;
-      past-the-last-day = refl;
-      others-of-any-day = refl;
+      taken_back_over_the_turn = refl;
+      two_turns_taken_back = refl;
+      step_back_taken_back = refl;
+      withdrawal_refused = refl;
+      only_read_gone = refl;
+      only_read_gone_whatever_advance = refl;
+      only_flagged_gone = refl;
+      fold_changes_nothing = refl;
+      no_fold_changes_nothing = refl;
+      report_changes_nothing = refl;
+      trial_changes_nothing = refl;
+      low_trial_changes_nothing = refl;
+      enrol_reported = refl;
+      submit_reported = refl;
+      withdraw_reported = refl;
+      fold_reported = refl;
+      report_answered = refl;
+      from_first_of_none = refl;
+      from_a_last_too_large = refl;
+      from_flagged_above = refl;
+      back_from_a_last_too_large = refl;
+      back_from_standing_above = refl;
+      largest_read = refl;
+      to_a_value_too_large = refl;
+      to_a_first_too_large = refl;
+      last_that_may_stand = refl;
+      to_standing_above = refl;
+      to_flagged_above = refl;
+      back_to_flagged_above = refl;
+      back_to_the_largest = refl;
+      back_to_a_last_too_large = refl;
+      back_by_a_turn_too_many = refl;
+      none_to_withdraw = refl;
+      no_flag_to_take_off = refl;
+      back_to_0 = refl;
+      back_below_0 = refl;
+      back_far_below_0 = refl;
+      over_a_year = refl;
+      elsewhere_over_a_year = refl;
+      nowhere_over_a_year = refl;
+      last_day_lem = refl;
+      past_the_last_day = refl;
+      others_of_any_day = refl;
     }
 
-pub tally-examples-hold-spec : {M : Type 1} → statement M
-tally-examples-hold-spec = tie.close (tie.spec returns)
+pub tally_examples_hold_spec : {M : Type 1} → statement M
+tally_examples_hold_spec = tie.close (tie.spec returns)

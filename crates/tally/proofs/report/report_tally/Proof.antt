@@ -6,59 +6,59 @@ use borrow.Author.Tests.{eq-eqb, ne_eqb}
 use mir.Syntax.{w64}
 use mir.ValLaws.{to_z-of_z}
 use Rattle.terms.specs.Number.{accepted}
-use Rattle.tally.specs.Tally.{tallyNumber, tallyTotal, tallyReport}
+use Rattle.tally.specs.Tally.{tally_number, tally_total, tally_report}
 use Rattle.tally.proofs.Fits.{number_fits}
 use borrow.Author.Rules.{rules}
 use Rattle.tally.proofs.report.report_tally.Statement.{statement}
 use Rattle.tally.proofs.report.report_tally.Tie as tie
 
-tally-number-requires : tie.Need-tally-number-requires
-tally-number-requires c κs = search rules
+tally_number_requires : tie.Need-tally-number-requires
+tally_number_requires c κs = search rules
 
-refuse-report-requires : tie.Need-refuse-report-requires
-refuse-report-requires c κs = search rules
+refuse_report_requires : tie.Need-refuse-report-requires
+refuse_report_requires c κs = search rules
 
-reports : (c : tie.Else1) → tallyNumber c.before.before.args.t ≡ accepted
-reports c = sym c.before.tally-number.ensures ∙ c.if1.false
+reports : (c : tie.Else1) → tally_number c.before.before.args.t ≡ accepted
+reports c = sym c.before.tally_number.ensures ∙ c.if1.false
 
 returns : tie.Need-returns
-unfolding tallyReport
+unfolding tally_report
 returns c =
     let n = c.before.before in
-    c.refuse-report.ensures ∙ rw (n.tally-number.ensures, ne_eqb _ accepted (λ e. c.before.if1.true (n.tally-number.ensures ∙ e)))
+    c.refuse_report.ensures ∙ rw (n.tally_number.ensures, ne_eqb _ accepted (λ e. c.before.if1.true (n.tally_number.ensures ∙ e)))
 
-cast-flagged : tie.Need-overflow-cast-flagged
-cast-flagged c =
+cast_flagged : tie.Need-overflow-cast-flagged
+cast_flagged c =
     let f = number_fits _ (reports c.before) in
     omega (arith, f.fewer, f.few)
 
-cast-t5 : tie.Need-overflow-cast-t5
-cast-t5 c = omega (arith, (number_fits _ (reports c.before.before)).few)
+cast_t5 : tie.Need-overflow-cast-t5
+cast_t5 c = omega (arith, (number_fits _ (reports c.before.before)).few)
 
-limit-of-requires : tie.Need-limit-of-requires
-limit-of-requires c κs = search rules
+limit_of_requires : tie.Need-limit-of-requires
+limit_of_requires c κs = search rules
 
-total-requires : tie.Need-total-requires
-total-requires c κs = search rules
+total_requires : tie.Need-total-requires
+total_requires c κs = search rules
 
-returns-2 : tie.Need-returns-2
-unfolding tallyReport tallyTotal
-returns-2 c =
+returns_2 : tie.Need-returns-2
+unfolding tally_report tally_total
+returns_2 c =
     let e = c.before.before.before.before in
     let t = e.before.before.args.t in
     let number = reports e in
-    let sum = to_z-of_z w64 _ (sfits_of c.total.type-inv) ∙ c.total.ensures t.dials c.before.limit-of.ensures in
+    let sum = to_z-of_z w64 _ (sfits_of c.total.type_inv) ∙ c.total.ensures t.dials c.before.limit_of.ensures in
     rw (eq-eqb _ accepted number, e.if1.false, sum)
 
-pub report-tally-spec : {M : Type 1} → statement M
-report-tally-spec =
+pub report_tally_spec : {M : Type 1} → statement M
+report_tally_spec =
     tie.close
     (tie.spec
-    tally-number-requires
-    refuse-report-requires
+    tally_number_requires
+    refuse_report_requires
     returns
-    cast-flagged
-    cast-t5
-    limit-of-requires
-    total-requires
-    returns-2)
+    cast_flagged
+    cast_t5
+    limit_of_requires
+    total_requires
+    returns_2)

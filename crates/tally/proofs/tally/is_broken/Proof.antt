@@ -1,21 +1,21 @@
 -- The code asks what the definition asks, with the limit at hand.
-use Rattle.tally.specs.Tally.{hasOtherDials, isNoValue, isBroken}
+use Rattle.tally.specs.Tally.{has_other_dials, is_no_value, is_broken}
 use borrow.Author.Rules.{rules}
 use Rattle.tally.proofs.tally.is_broken.Statement.{statement}
 use Rattle.tally.proofs.tally.is_broken.Tie as tie
 
-limit-of-requires : tie.Need-limit-of-requires
-limit-of-requires c κs = search rules
+limit_of_requires : tie.Need-limit-of-requires
+limit_of_requires c κs = search rules
 
-cast-other-dials : tie.Need-overflow-cast-other-dials
-cast-other-dials c = search rules
+cast_other_dials : tie.Need-overflow-cast-other-dials
+cast_other_dials c = search rules
 
-cast-other-dials-2 : tie.Need-overflow-cast-other-dials-2
-cast-other-dials-2 c = search rules
+cast_other_dials_2 : tie.Need-overflow-cast-other-dials-2
+cast_other_dials_2 c = search rules
 
 returns : tie.Need-returns
-unfolding isBroken hasOtherDials isNoValue
-returns c = rw c.before.before.before.before.before.before.before.before.before.limit-of.ensures
+unfolding is_broken has_other_dials is_no_value
+returns c = rw c.before.before.before.before.before.before.before.before.before.limit_of.ensures
 
-pub is-broken-spec : {M : Type 1} → statement M
-is-broken-spec = tie.close (tie.spec limit-of-requires cast-other-dials cast-other-dials-2 returns)
+pub is_broken_spec : {M : Type 1} → statement M
+is_broken_spec = tie.close (tie.spec limit_of_requires cast_other_dials cast_other_dials_2 returns)

@@ -1,88 +1,88 @@
 -- Every row computes to what it says.
 use mathlib.Core.Path.{refl}
-use Rattle.terms.specs.Entry.{isStanding, isWithdrawn, is_held}
-use Rattle.terms.specs.Letter.{isKnown, isOpening, isFinal, isHoldable, isUnchecked}
-use Rattle.terms.specs.Profile.{meterKind, profileOf, takes}
+use Rattle.terms.specs.Entry.{is_standing, is_withdrawn, is_held}
+use Rattle.terms.specs.Letter.{is_known, is_opening, is_final, is_holdable, is_unchecked}
+use Rattle.terms.specs.Profile.{meter_kind, profile_of, takes}
 use Rattle.terms.specs.Tables.{below}
 use Rattle.terms.proofs.tables.tables_hold.Statement.{statement}
 use Rattle.terms.proofs.tables.tables_hold.Tie as tie
 
 returns : tie.Need-returns
-unfolding isStanding isWithdrawn is_held isKnown isOpening isFinal isHoldable isUnchecked meterKind profileOf takes below
+unfolding is_standing is_withdrawn is_held is_known is_opening is_final is_holdable is_unchecked meter_kind profile_of takes below
 returns c =
     record {
-      accepted-0 = refl;
-      repeat-1 = refl;
-      misfit-2 = refl;
-      no-meter-3 = refl;
-      damaged-4 = refl;
-      missing-5 = refl;
-      content-6 = refl;
-      date-7 = refl;
-      withdrawn-8 = refl;
-      AT-9 = refl;
-      EH-10 = refl;
-      BF-11 = refl;
-      back-dated-12 = refl;
-      DF-13 = refl;
-      indicator-on-opening-14 = refl;
-      no-original-15 = refl;
-      full-16 = refl;
-      EE-17 = refl;
-      EF-18 = refl;
-      low-19 = refl;
-      high-20 = refl;
-      capacity-21 = refl;
-      not-standing-22 = refl;
-      not-last-23 = refl;
-      enrolled-24 = refl;
-      plate-25 = refl;
-      sheet-26 = refl;
-      no-fold-27 = refl;
-      oldest-kept-28 = refl;
-      other-type-29 = refl;
-      none-broken = refl;
-      both-broken = refl;
-      accepted-zeros = refl;
-      answer-fields = refl;
-      refused-zeros = refl;
-      report-fields = refl;
-      report-zeros = refl;
-      meter-kind-1 = refl;
-      standing-kind-2 = refl;
-      withdrawn-kind-3 = refl;
-      held-kind-4 = refl;
-      carry-kind-5 = refl;
-      pseudo-kind-7 = refl;
-      standing-kinds = refl;
-      withdrawn-kinds = refl;
-      held-kinds = refl;
-      kind-of-ordinary = refl;
-      kind-of-pseudo = refl;
-      profile-of-1 = refl;
-      profile-of-7 = refl;
-      not-set-0 = refl;
-      false-1 = refl;
-      true-2 = refl;
-      letter-I = refl;
-      letter-O = refl;
-      letter-F = refl;
-      letter-C = refl;
-      letter-U = refl;
-      letter-R = refl;
-      letter-T = refl;
-      letter-S = refl;
-      letter-X = refl;
-      letter-Y = refl;
-      letter-E = refl;
+      accepted_0 = refl;
+      repeat_1 = refl;
+      misfit_2 = refl;
+      no_meter_3 = refl;
+      damaged_4 = refl;
+      missing_5 = refl;
+      content_6 = refl;
+      date_7 = refl;
+      withdrawn_8 = refl;
+      at_9 = refl;
+      eh_10 = refl;
+      bf_11 = refl;
+      back_dated_12 = refl;
+      df_13 = refl;
+      indicator_on_opening_14 = refl;
+      no_original_15 = refl;
+      full_16 = refl;
+      ee_17 = refl;
+      ef_18 = refl;
+      low_19 = refl;
+      high_20 = refl;
+      capacity_21 = refl;
+      not_standing_22 = refl;
+      not_last_23 = refl;
+      enrolled_24 = refl;
+      plate_25 = refl;
+      sheet_26 = refl;
+      no_fold_27 = refl;
+      oldest_kept_28 = refl;
+      other_type_29 = refl;
+      none_broken = refl;
+      both_broken = refl;
+      accepted_zeros = refl;
+      answer_fields = refl;
+      refused_zeros = refl;
+      report_fields = refl;
+      report_zeros = refl;
+      meter_kind_1 = refl;
+      standing_kind_2 = refl;
+      withdrawn_kind_3 = refl;
+      held_kind_4 = refl;
+      carry_kind_5 = refl;
+      pseudo_kind_7 = refl;
+      standing_kinds = refl;
+      withdrawn_kinds = refl;
+      held_kinds = refl;
+      kind_of_ordinary = refl;
+      kind_of_pseudo = refl;
+      profile_of_1 = refl;
+      profile_of_7 = refl;
+      not_set_0 = refl;
+      false_1 = refl;
+      true_2 = refl;
+      letter_i_row = refl;
+      letter_o_row = refl;
+      letter_f_row = refl;
+      letter_c_row = refl;
+      letter_u_row = refl;
+      letter_r_row = refl;
+      letter_t_row = refl;
+      letter_s_row = refl;
+      letter_x_row = refl;
+      letter_y_row = refl;
+      letter_e_row = refl;
       known = refl;
       opening = refl;
       final = refl;
       holdable = refl;
       unchecked = refl;
-      ordinary-takes = refl;
-      pseudo-takes = refl;
+      ordinary_takes = refl;
+      pseudo_takes = refl;
     }
 
-pub tables-hold-spec : {M : Type 1} → statement M
-tables-hold-spec = tie.close (tie.spec returns)
+pub tables_hold_spec : {M : Type 1} → statement M
+tables_hold_spec = tie.close (tie.spec returns)

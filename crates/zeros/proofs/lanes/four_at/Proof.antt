@@ -1,42 +1,42 @@
 -- Two numbers of two bytes each, so the sum fits.
 use borrow.Author.Rules.{rules}
-use Rattle.zeros.proofs.Blocks.{four-zero}
+use Rattle.zeros.proofs.Blocks.{four_zero}
 use Rattle.zeros.proofs.lanes.four_at.Statement.{statement}
 use Rattle.zeros.proofs.lanes.four_at.Tie as tie
 
-two-at-requires : tie.Need-two-at-requires
-two-at-requires c κs = search rules
+two_at_requires : tie.Need-two-at-requires
+two_at_requires c κs = search rules
 
-cast-low : tie.Need-overflow-cast-low
-cast-low c = search rules
+cast_low : tie.Need-overflow-cast-low
+cast_low c = search rules
 
-add-two-at : tie.Need-overflow-add-two-at
-add-two-at c = search rules
+add_two_at : tie.Need-overflow-add-two-at
+add_two_at c = search rules
 
-two-at-requires-2 : tie.Need-two-at-requires-2
-two-at-requires-2 c κs = search rules
+two_at_requires_2 : tie.Need-two-at-requires-2
+two_at_requires_2 c κs = search rules
 
-cast-high : tie.Need-overflow-cast-high
-cast-high c = search rules
+cast_high : tie.Need-overflow-cast-high
+cast_high c = search rules
 
-mul-result : tie.Need-overflow-mul-result
-mul-result c = search rules
+mul_result : tie.Need-overflow-mul-result
+mul_result c = search rules
 
-add-result : tie.Need-overflow-add-result
-add-result c = search rules
+add_result : tie.Need-overflow-add-result
+add_result c = search rules
 
 returns : tie.Need-returns
-returns c = four-zero _ _ c.before.two_at.ensures c.two-at2.ensures
+returns c = four_zero _ _ c.before.two_at.ensures c.two_at2.ensures
 
-pub four-at-spec : {M : Type 1} → statement M
-four-at-spec =
+pub four_at_spec : {M : Type 1} → statement M
+four_at_spec =
     tie.close
     (tie.spec
-    two-at-requires
-    cast-low
-    add-two-at
-    two-at-requires-2
-    cast-high
-    mul-result
-    add-result
+    two_at_requires
+    cast_low
+    add_two_at
+    two_at_requires_2
+    cast_high
+    mul_result
+    add_result
     returns)

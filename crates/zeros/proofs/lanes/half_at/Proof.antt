@@ -1,53 +1,53 @@
 -- Eight times eight bytes side by side, in the two lanes by turns.
-use Rattle.zeros.proofs.Blocks.{block-zero, block-adds}
+use Rattle.zeros.proofs.Blocks.{block_zero, block_adds}
 use borrow.Author.Rules.{rules}
 use Rattle.zeros.proofs.lanes.half_at.Statement.{statement}
 use Rattle.zeros.proofs.lanes.half_at.Tie as tie
 
-eight-at-requires : tie.Need-eight-at-requires
-eight-at-requires c κs = search rules
+eight_at_requires : tie.Need-eight-at-requires
+eight_at_requires c κs = search rules
 
-add-eight-at : tie.Need-overflow-add-eight-at
-add-eight-at c = search rules
+add_eight_at : tie.Need-overflow-add-eight-at
+add_eight_at c = search rules
 
-eight-at-requires-2 : tie.Need-eight-at-requires-2
-eight-at-requires-2 c κs = search rules
+eight_at_requires_2 : tie.Need-eight-at-requires-2
+eight_at_requires_2 c κs = search rules
 
-add-eight-at-2 : tie.Need-overflow-add-eight-at-2
-add-eight-at-2 c = search rules
+add_eight_at_2 : tie.Need-overflow-add-eight-at-2
+add_eight_at_2 c = search rules
 
-eight-at-requires-3 : tie.Need-eight-at-requires-3
-eight-at-requires-3 c κs = search rules
+eight_at_requires_3 : tie.Need-eight-at-requires-3
+eight_at_requires_3 c κs = search rules
 
-add-eight-at-3 : tie.Need-overflow-add-eight-at-3
-add-eight-at-3 c = search rules
+add_eight_at_3 : tie.Need-overflow-add-eight-at-3
+add_eight_at_3 c = search rules
 
-eight-at-requires-4 : tie.Need-eight-at-requires-4
-eight-at-requires-4 c κs = search rules
+eight_at_requires_4 : tie.Need-eight-at-requires-4
+eight_at_requires_4 c κs = search rules
 
-add-eight-at-4 : tie.Need-overflow-add-eight-at-4
-add-eight-at-4 c = search rules
+add_eight_at_4 : tie.Need-overflow-add-eight-at-4
+add_eight_at_4 c = search rules
 
-eight-at-requires-5 : tie.Need-eight-at-requires-5
-eight-at-requires-5 c κs = search rules
+eight_at_requires_5 : tie.Need-eight-at-requires-5
+eight_at_requires_5 c κs = search rules
 
-add-eight-at-5 : tie.Need-overflow-add-eight-at-5
-add-eight-at-5 c = search rules
+add_eight_at_5 : tie.Need-overflow-add-eight-at-5
+add_eight_at_5 c = search rules
 
-eight-at-requires-6 : tie.Need-eight-at-requires-6
-eight-at-requires-6 c κs = search rules
+eight_at_requires_6 : tie.Need-eight-at-requires-6
+eight_at_requires_6 c κs = search rules
 
-add-eight-at-6 : tie.Need-overflow-add-eight-at-6
-add-eight-at-6 c = search rules
+add_eight_at_6 : tie.Need-overflow-add-eight-at-6
+add_eight_at_6 c = search rules
 
-eight-at-requires-7 : tie.Need-eight-at-requires-7
-eight-at-requires-7 c κs = search rules
+eight_at_requires_7 : tie.Need-eight-at-requires-7
+eight_at_requires_7 c κs = search rules
 
-add-eight-at-7 : tie.Need-overflow-add-eight-at-7
-add-eight-at-7 c = search rules
+add_eight_at_7 : tie.Need-overflow-add-eight-at-7
+add_eight_at_7 c = search rules
 
-eight-at-requires-8 : tie.Need-eight-at-requires-8
-eight-at-requires-8 c κs = search rules
+eight_at_requires_8 : tie.Need-eight-at-requires-8
+eight_at_requires_8 c κs = search rules
 
 returns : tie.Need-returns
 returns c =
@@ -59,7 +59,7 @@ returns c =
     let e₂ = e₆.before in
     let e₄ = e₂.before in
     let e₀ = e₄.before in
-    block-adds
+    block_adds
     _
     _
     _
@@ -69,34 +69,34 @@ returns c =
     _
     _
     e₀.before.before.args.lanes
-    (block-zero
+    (block_zero
     _
-    e₀.eight-at.ensures
-    e₁.eight-at5.ensures
-    e₂.eight-at3.ensures
-    e₃.eight-at7.ensures
-    e₄.eight-at2.ensures
-    e₅.eight-at6.ensures
-    e₆.eight-at4.ensures
-    e₇.eight-at8.ensures)
+    e₀.eight_at.ensures
+    e₁.eight_at5.ensures
+    e₂.eight_at3.ensures
+    e₃.eight_at7.ensures
+    e₄.eight_at2.ensures
+    e₅.eight_at6.ensures
+    e₆.eight_at4.ensures
+    e₇.eight_at8.ensures)
 
-pub half-at-spec : {M : Type 1} → statement M
-half-at-spec =
+pub half_at_spec : {M : Type 1} → statement M
+half_at_spec =
     tie.close
     (tie.spec
-    eight-at-requires
-    add-eight-at
-    eight-at-requires-2
-    add-eight-at-2
-    eight-at-requires-3
-    add-eight-at-3
-    eight-at-requires-4
-    add-eight-at-4
-    eight-at-requires-5
-    add-eight-at-5
-    eight-at-requires-6
-    add-eight-at-6
-    eight-at-requires-7
-    add-eight-at-7
-    eight-at-requires-8
+    eight_at_requires
+    add_eight_at
+    eight_at_requires_2
+    add_eight_at_2
+    eight_at_requires_3
+    add_eight_at_3
+    eight_at_requires_4
+    add_eight_at_4
+    eight_at_requires_5
+    add_eight_at_5
+    eight_at_requires_6
+    add_eight_at_6
+    eight_at_requires_7
+    add_eight_at_7
+    eight_at_requires_8
     returns)
