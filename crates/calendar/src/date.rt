@@ -1,7 +1,7 @@
 // A date by its parts.
 
 // Zeros where there is none.
-#[derive(Drop)]
+#[derive(Clone, Copy)]
 pub struct Date {
     pub year: u16,
     pub month: u8,

@@ -3,7 +3,7 @@ use terms::answer::{Answer, Report};
 use terms::profile::Profile;
 use terms::submission::Submission;
 
-#[derive(Drop)]
+#[derive(Clone, Copy)]
 pub enum Call {
     Enrol {
         place: u16,
@@ -33,7 +33,7 @@ pub enum Call {
     },
 }
 
-#[derive(Drop)]
+#[derive(Clone, Copy)]
 pub enum Reply {
     Answered(Answer),
     Reported(Report),

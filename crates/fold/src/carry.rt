@@ -12,7 +12,7 @@ use reads::first::first;
 use register::head::{Carry, Head};
 use terms::entry::{Recent, Slot};
 
-#[derive(Drop)]
+#[derive(Clone, Copy)]
 pub struct Kept;
 
 impl Kept {

@@ -10,13 +10,13 @@ use judge::area::{Judged, Summary, judge_area};
 use terms::number::Number;
 
 // A refusal, or what was counted of the journal that the call is to change.
-#[derive(Drop)]
+#[derive(Clone, Copy)]
 pub enum Decided {
     Refused(u8),
     Taken(Summary),
 }
 
-#[derive(Drop)]
+#[derive(Clone, Copy)]
 struct Least;
 
 impl Least {

@@ -51,7 +51,7 @@ fn write_folded(area: &mut [u8], t: Summary)
 {
     let mut left = [0; Layout::AREA_BYTES];
     lay(area, t, &mut left);
-    bytes::copy(&left, area);
+    area.copy_from_slice(&left);
 }
 
 // The call on the area that it names.

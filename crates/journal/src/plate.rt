@@ -8,7 +8,7 @@ use register::head::Head;
 use terms::profile::meter_kind;
 
 // The dials that a meter may have.
-#[derive(Drop)]
+#[derive(Clone, Copy)]
 pub struct Dials;
 
 impl Dials {

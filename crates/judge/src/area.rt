@@ -26,7 +26,7 @@ use register::read::head_of;
 use zeros::is_zero_from;
 
 // Counts over a journal's entries.
-#[derive(Drop)]
+#[derive(Clone, Copy)]
 pub struct Counts {
     // Standing and withdrawn entries.
     pub kept: u8,
@@ -38,7 +38,7 @@ pub struct Counts {
     pub newest: u8,
 }
 
-#[derive(Drop)]
+#[derive(Clone, Copy)]
 pub struct Summary {
     pub head: Head,
     pub counts: Counts,
@@ -52,14 +52,14 @@ pub struct Summary {
     pub ended: bool,
 }
 
-#[derive(Drop)]
+#[derive(Clone, Copy)]
 pub enum Judged {
     Zero,
     Damaged,
     Sound(Summary),
 }
 
-#[derive(Drop)]
+#[derive(Clone, Copy)]
 pub struct Judgement {
     pub found: Judged,
     // The read that was asked for is withdrawn. It is not where there is no sound journal.

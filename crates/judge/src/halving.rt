@@ -13,7 +13,7 @@ use journal::order::{has_read, is_withdrawn};
 use register::area::Layout;
 use terms::entry::{Entry, Kind};
 
-#[derive(Drop)]
+#[derive(Clone, Copy)]
 struct Room;
 
 impl Room {

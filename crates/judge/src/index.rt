@@ -10,7 +10,7 @@ use crate::read::entry_at;
 use journal::order::{has_read, is_withdrawn};
 use terms::entry::Entry;
 
-#[derive(Drop)]
+#[derive(Clone, Copy)]
 pub struct Index;
 
 impl Index {

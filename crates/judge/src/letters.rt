@@ -4,7 +4,7 @@ ghost use Rattle.judge.specs.Inner.Plain.{PlainLetter};
 
 use crate::marks::is_marked;
 
-#[derive(Drop)]
+#[derive(Clone, Copy)]
 struct Letters;
 
 impl Letters {

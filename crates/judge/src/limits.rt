@@ -6,7 +6,7 @@ use arithmetic::powers::power;
 use register::head::{Head, most_entries};
 use terms::profile::Profile;
 
-#[derive(Drop)]
+#[derive(Clone, Copy)]
 pub struct Limits {
     pub head: Head,
     // 10^n.

@@ -18,7 +18,7 @@ use register::area::Layout;
 use register::head::Head;
 use terms::entry::Entry;
 
-#[derive(Drop)]
+#[derive(Clone, Copy)]
 pub struct Pass {
     pub run: Run,
     // In order: sound but for what compares standing and withdrawn reads, and but for a carry.

@@ -13,7 +13,7 @@ use crate::pass::{Pass, pass_rest};
 use register::area::Layout;
 use register::head::Head;
 
-#[derive(Drop)]
+#[derive(Clone, Copy)]
 pub struct Passed {
     pub pass: Pass,
     // The read that was asked for is withdrawn.

@@ -18,7 +18,7 @@ use terms::entry::Entry;
 use terms::submission::Indicator;
 
 // What is kept of some of the entries.
-#[derive(Drop)]
+#[derive(Clone, Copy)]
 pub struct Run {
     // The value of the first standing read.
     pub first: u32,

@@ -8,7 +8,7 @@ use calls::call::Reply;
 use register::write::put_byte;
 use terms::answer::{Answer, Report};
 
-#[derive(Drop)]
+#[derive(Clone, Copy)]
 pub struct LineSize;
 
 impl LineSize {

@@ -10,7 +10,7 @@ use register::area::Layout;
 use terms::entry::Slot;
 use terms::number::Number;
 
-#[derive(Drop)]
+#[derive(Clone, Copy)]
 pub struct Searched {
     pub number: u8,
     pub found: Slot,

@@ -24,7 +24,7 @@ use terms::entry::{Entry, Kind, Slot};
 use terms::number::Number;
 
 // A refusal, or what was counted of the journal that the call is to change.
-#[derive(Drop)]
+#[derive(Clone, Copy)]
 pub enum Decided {
     Refused(u8),
     Taken(Summary),

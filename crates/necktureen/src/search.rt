@@ -5,7 +5,7 @@ ghost use Rattle.necktureen.specs.Search.{fields_of};
 use meter::search::Searched;
 use terms::entry::Slot;
 
-#[derive(Drop)]
+#[derive(Clone, Copy)]
 pub struct SearchFields {
     pub number: u8,
     // 1 if a read is found, else 0.

@@ -5,7 +5,7 @@ use register::area::Layout;
 use terms::number::Number;
 
 // The number that refuses a place, or the byte at which its area starts.
-#[derive(Drop)]
+#[derive(Clone, Copy)]
 pub enum Located {
     Refused(u8),
     At(usize),

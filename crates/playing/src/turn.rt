@@ -11,7 +11,7 @@ use terms::answer::refuse;
 use terms::number::Number;
 
 // Where the next entry starts, and where the text ends.
-#[derive(Drop)]
+#[derive(Clone, Copy)]
 pub struct Progress {
     pub at: usize,
     pub end: usize,

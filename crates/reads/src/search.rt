@@ -11,7 +11,7 @@ use judge::area::Summary;
 use register::head::head_bytes;
 use terms::entry::{Entry, Kind, Slot};
 
-#[derive(Drop)]
+#[derive(Clone, Copy)]
 pub struct Search {
     pub found: Slot,
     // How many standing days were compared with the one that is asked for.

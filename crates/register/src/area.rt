@@ -1,5 +1,5 @@
 // The sizes of the register and of what it holds.
-#[derive(Drop)]
+#[derive(Clone, Copy)]
 pub struct Layout;
 
 impl Layout {

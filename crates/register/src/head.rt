@@ -6,7 +6,7 @@ use crate::area::Layout;
 use terms::profile::Profile;
 
 // What a carry says of the reads that were folded.
-#[derive(Drop)]
+#[derive(Clone, Copy)]
 pub struct Carry {
     // The value of the first of them.
     pub first: u32,
@@ -16,7 +16,7 @@ pub struct Carry {
 }
 
 // What the meter's entry says, and the carry after it.
-#[derive(Drop)]
+#[derive(Clone, Copy)]
 pub struct Head {
     pub profile: Profile,
     pub dials: u8,
@@ -27,7 +27,7 @@ pub struct Head {
     pub carry: Carry,
 }
 
-#[derive(Drop)]
+#[derive(Clone, Copy)]
 pub struct HeadSize;
 
 impl HeadSize {

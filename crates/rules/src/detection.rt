@@ -10,7 +10,7 @@ use arithmetic::powers::{mark_unit, power};
 use terms::entry::{Entry, Recent, Slot};
 use terms::submission::Submission;
 
-#[derive(Drop)]
+#[derive(Clone, Copy)]
 pub enum Detected {
     NotRollover,
     Rollover,

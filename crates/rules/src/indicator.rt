@@ -5,7 +5,7 @@ ghost use Rattle.rules.specs.Indicator.{indicated};
 use crate::detection::Detected;
 use terms::submission::Indicator;
 
-#[derive(Drop)]
+#[derive(Clone, Copy)]
 pub enum Indicated {
     // 17: the indicator denies what detection found.
     Denied,

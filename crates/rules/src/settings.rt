@@ -2,7 +2,7 @@
 ghost use Rattle.std.specs.Prelude.{◌≡◌};
 ghost use Rattle.rules.specs.Settings.{step_back};
 
-#[derive(Drop)]
+#[derive(Clone, Copy)]
 pub struct Settings;
 
 impl Settings {

@@ -13,7 +13,7 @@ use terms::number::Number;
 use terms::submission::Submission;
 
 // Where an advance lies against the one before.
-#[derive(Drop)]
+#[derive(Clone, Copy)]
 pub enum Compared {
     // 19: the daily rate is below the low percentage of the one before.
     Low,

@@ -5,7 +5,7 @@ ghost use Rattle.sheet.specs.Sheet.{kind_of, body_bytes};
 use terms::profile::Profile;
 
 // One for each kind of call that a sheet may hold.
-#[derive(Drop)]
+#[derive(Clone, Copy)]
 pub enum Form {
     Enrol(Profile),
     Submit,
@@ -15,7 +15,7 @@ pub enum Form {
 }
 
 // What a kind byte says: the form, if there is one of that number.
-#[derive(Drop)]
+#[derive(Clone, Copy)]
 pub enum Kind {
     Known(Form),
     Unknown,
@@ -36,7 +36,7 @@ pub fn kind_of(byte: u8) -> Kind
 }
 
 // How long a body is.
-#[derive(Drop)]
+#[derive(Clone, Copy)]
 pub struct BodySize;
 
 impl BodySize {

@@ -2,7 +2,7 @@
 ghost use Rattle.std.specs.Prelude.{◌≡◌, ◌+◌, length};
 ghost use Rattle.sheet.specs.Sheet.{sheet_most};
 
-#[derive(Drop)]
+#[derive(Clone, Copy)]
 pub struct SheetSize;
 
 impl SheetSize {

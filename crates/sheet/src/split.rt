@@ -6,7 +6,7 @@ use crate::body::call_at;
 use crate::form::{Kind, body_bytes, kind_of};
 use calls::call::Call;
 
-#[derive(Drop)]
+#[derive(Clone, Copy)]
 pub enum Next {
     // A call, and where the next entry starts.
     Found(Call, usize),

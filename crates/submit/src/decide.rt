@@ -25,7 +25,7 @@ use terms::entry::Recent;
 use terms::number::Number;
 use terms::submission::Submission;
 
-#[derive(Drop)]
+#[derive(Clone, Copy)]
 pub struct Decision {
     pub number: u8,
     // The flag that a read is stored with.

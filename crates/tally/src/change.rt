@@ -13,7 +13,7 @@ use terms::answer::Answer;
 use terms::number::Number;
 
 // Where the last value has moved to: a value that the dials show, or out of their range.
-#[derive(Drop)]
+#[derive(Clone, Copy)]
 pub enum Moved {
     To(u32),
     Out,

@@ -9,7 +9,7 @@ use terms::number::Number;
 
 // Five numbers of four bytes each, in this order and with nothing between them, for C and Rust too.
 #[repr(C)]
-#[derive(Drop)]
+#[derive(Clone, Copy)]
 pub struct Tally {
     pub dials: u32,
     pub standing: u32,
@@ -19,7 +19,7 @@ pub struct Tally {
 }
 
 // The most reads that a report counts.
-#[derive(Drop)]
+#[derive(Clone, Copy)]
 pub(crate) struct Most;
 
 impl Most {

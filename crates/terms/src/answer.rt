@@ -5,7 +5,7 @@ ghost use Rattle.terms.specs.Answer.{acceptance, refusal, refused_report};
 use crate::number::Number;
 
 // An enrolment, a submission, a withdrawal or a fold.
-#[derive(Drop)]
+#[derive(Clone, Copy)]
 pub struct Answer {
     pub number: u8,
     pub flag: u8,
@@ -13,7 +13,7 @@ pub struct Answer {
 }
 
 // A report.
-#[derive(Drop)]
+#[derive(Clone, Copy)]
 pub struct Report {
     pub number: u8,
     pub standing: u16,

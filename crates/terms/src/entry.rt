@@ -1,7 +1,7 @@
 // An entry of a journal, and the last standing reads that the rules look at.
 
 // The kind byte of an entry.
-#[derive(Drop)]
+#[derive(Clone, Copy)]
 pub struct Kind;
 
 impl Kind {
@@ -19,7 +19,7 @@ impl Kind {
 }
 
 // A standing, withdrawn or held read as the journal stores it: the kind and its body.
-#[derive(Drop)]
+#[derive(Clone, Copy)]
 pub struct Entry {
     pub kind: u8,
     pub day: u16,
@@ -32,14 +32,14 @@ pub struct Entry {
 }
 
 // A read that may or may not exist.
-#[derive(Drop)]
+#[derive(Clone, Copy)]
 pub enum Slot {
     Read(Entry),
     Empty,
 }
 
 // R0, R-1 and R-2: the last, second last and third last standing reads, where they exist.
-#[derive(Drop)]
+#[derive(Clone, Copy)]
 pub struct Recent {
     pub last: Slot,
     pub second: Slot,

@@ -2,7 +2,7 @@
 ghost use Rattle.std.specs.Prelude.{◌≡◌};
 ghost use Rattle.terms.specs.Letter.{is_known, is_opening, is_holdable, is_unchecked};
 
-#[derive(Drop)]
+#[derive(Clone, Copy)]
 pub struct Letter;
 
 impl Letter {
@@ -56,7 +56,7 @@ pub fn is_unchecked(letter: u8) -> bool
     (letter == Letter::INITIAL) | ((letter == Letter::OPENING) | (letter == Letter::RECONNECTION))
 }
 
-#[derive(Drop)]
+#[derive(Clone, Copy)]
 struct Letters;
 
 impl Letters {

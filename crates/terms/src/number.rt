@@ -1,5 +1,5 @@
 // The numbers of document 01's table, by their words.
-#[derive(Drop)]
+#[derive(Clone, Copy)]
 pub struct Number;
 
 impl Number {

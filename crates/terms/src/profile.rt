@@ -5,7 +5,7 @@ ghost use Rattle.terms.specs.Profile.{meter_kind, profile_of, takes};
 use crate::entry::Kind;
 use crate::letter::{Letter, is_known};
 
-#[derive(Drop)]
+#[derive(Clone, Copy)]
 pub enum Profile {
     // A dial on the wall.
     Ordinary,

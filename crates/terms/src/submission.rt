@@ -1,7 +1,7 @@
 // What a terminal submits.
 
 // The rollover indicator.
-#[derive(Drop)]
+#[derive(Clone, Copy)]
 pub struct Indicator;
 
 impl Indicator {
@@ -13,7 +13,7 @@ impl Indicator {
 }
 
 // The arguments of a submission besides its place.
-#[derive(Drop)]
+#[derive(Clone, Copy)]
 pub struct Submission {
     pub submitted: u16,
     // D1 and R1: the read day and the value.

@@ -3,7 +3,7 @@ ghost use Rattle.std.specs.Prelude.{◌+◌, ◌≤◌, length};
 ghost use Rattle.zeros.specs.Inner.Zeros.{Zeros, Adds};
 
 // Two numbers whose bits are those of the bytes passed: two, so that the compiler may take sixteen bytes at a time.
-#[derive(Drop)]
+#[derive(Clone, Copy)]
 pub struct Lanes {
     pub low: u64,
     pub high: u64,

@@ -6,7 +6,7 @@ use crate::lanes::{Lanes, block_at, eight_at, four_at};
 
 mod lanes;
 
-#[derive(Drop)]
+#[derive(Clone, Copy)]
 struct Block;
 
 impl Block {
