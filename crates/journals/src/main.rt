@@ -1,5 +1,7 @@
 // Reads a day sheet from standard input, plays it on a register of zeros and prints the journals that it leaves: a line for each meter that is
 // enrolled, with its place and, in hexadecimal, the bytes of its part of the register.
+#![tactic(auto)]
+
 use libc::{STDIN_FILENO, STDOUT_FILENO};
 use meter::part::journal;
 use playing::day::zero_register;

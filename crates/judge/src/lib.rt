@@ -1,4 +1,6 @@
 // The judgement of an area in one pass: all zero, damaged, or sound with what is counted, for any bytes whatever.
+#![tactic(auto)]
+
 mod apart;
 pub mod area;
 mod carry;

@@ -1,4 +1,6 @@
 // The text of replies: numbers in decimal, and a reply as a line.
+#![tactic(auto)]
+
 pub mod claims;
 mod decimal;
 pub mod line;

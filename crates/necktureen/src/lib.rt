@@ -1,5 +1,7 @@
 // The calls for a program in C or Rust: numbers and byte slices alone, no promise asked of the caller. Each answers its number and puts the
 // other fields where the caller says. A tally, which the caller keeps, and the calendar stand beside them.
+#![tactic(auto)]
+
 ghost use Rattle.std.specs.Prelude.{◌≡◌};
 ghost use Rattle.calendar.specs.Date.{date, date_of, day_of};
 ghost use Rattle.terms.specs.Answer.{answer, reported};

@@ -1,4 +1,6 @@
 // The one way from a register and a place to the area that a call is lent.
+#![tactic(auto)]
+
 ghost use Rattle.place.specs.Located.{Locates};
 
 use register::area::Layout;

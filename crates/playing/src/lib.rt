@@ -1,4 +1,6 @@
 // A day sheet played: its calls carried out on a register, and the lines that its program prints.
+#![tactic(auto)]
+
 pub mod apply;
 pub mod claims;
 pub mod day;

@@ -1,4 +1,6 @@
 // Reads a day sheet from standard input, plays it on a register of zeros and prints the text.
+#![tactic(auto)]
+
 use libc::{STDIN_FILENO, STDOUT_FILENO};
 use playing::day::zero_register;
 use playing::piece::play_from;

@@ -1,4 +1,6 @@
 // The bytes of the register: areas, heads, entries, how they are read and how they are written. What the bytes mean is the journal's to say.
+#![tactic(auto)]
+
 pub mod area;
 pub mod claims;
 pub mod head;

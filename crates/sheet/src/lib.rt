@@ -1,4 +1,6 @@
 // The day sheet: a list of calls as bytes.
+#![tactic(auto)]
+
 mod body;
 pub mod claims;
 pub mod form;

@@ -1,4 +1,6 @@
 // Submit: a read judged by every rule in order, and written only after. Trial: judged so, and not written.
+#![tactic(auto)]
+
 mod content;
 pub mod decide;
 mod order;

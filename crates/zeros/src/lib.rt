@@ -1,4 +1,6 @@
 // Bytes that are zero to the end, as an area with no meter is, and an area after its journal.
+#![tactic(auto)]
+
 ghost use Rattle.std.specs.Prelude.{◌≡◌, ◌+◌, ◌≤◌, ◌<◌, length, drop};
 ghost use Rattle.register.specs.Area.{all_zero};
 

@@ -8,45 +8,45 @@ use borrow.Author.Rules.{rules}
 use Rattle.journals.proofs.main.Statement.{statement}
 use Rattle.journals.proofs.main.Tie as tie
 
-register_length : (c : tie.After-zero-register) → length c.zero_register.result ≡ register_bytes
-register_length c = ap length c.zero_register.ensures ∙ zero_whole
+register_length : (c : tie.After-zero_register-register) → length c.zero_register-register.result ≡ register_bytes
+register_length c = ap length c.zero_register-register.ensures ∙ zero_whole
 
-room_for_sheet_requires : tie.Need-room-for-sheet-requires
+room_for_sheet_requires : tie.Need-room_for_sheet-sheet-requires
 room_for_sheet_requires c κs = search rules
 
-zero_register_requires : tie.Need-zero-register-requires
+zero_register_requires : tie.Need-zero_register-register-requires
 zero_register_requires c κs = search rules
 
-buffer_requires : tie.Need-buffer-requires
+buffer_requires : tie.Need-buffer-lines-requires
 buffer_requires c κs = search rules
 
-slice_aggregate_read_full : tie.Need-slice-aggregate-read-full
-slice_aggregate_read_full c = sym c.before.before.before.room_for_sheet.ensures
+slice_aggregate_read_full : tie.Need-slice_bounds-read_full-end
+slice_aggregate_read_full c = sym c.before.before.before.room_for_sheet-sheet.ensures
 
-read_full_requires : tie.Need-read-full-requires
+read_full_requires : tie.Need-read_full-length-requires
 read_full_requires c κs = search rules
 
-array_share_prefix_sheet : tie.Need-array-share-prefix-sheet
+array_share_prefix_sheet : tie.Need-slice_bounds-sheet-end
 array_share_prefix_sheet c = search rules
 
-slice_aggregate_play : tie.Need-slice-aggregate-play
+slice_aggregate_play : tie.Need-slice_bounds-play-end
 slice_aggregate_play c = sym (length-take-le _ _ (search rules))
 
-slice_aggregate_play_2 : tie.Need-slice-aggregate-play-2
+slice_aggregate_play_2 : tie.Need-slice_bounds-play-end-2
 slice_aggregate_play_2 c = sym (register_length c.before.before.before.before.before.before)
 
-slice_aggregate_play_3 : tie.Need-slice-aggregate-play-3
+slice_aggregate_play_3 : tie.Need-slice_bounds-play-end-3
 slice_aggregate_play_3 c = search rules
 
 play_requires : tie.Need-play-requires
 play_requires c κs = search rules
 
-slice_aggregate_print_journals : tie.Need-slice-aggregate-print-journals
+slice_aggregate_print_journals : tie.Need-slice_bounds-print_journals-end
 slice_aggregate_print_journals c =
     let played = c.before.before.before in
     sym (played.play.auto.1.0 ∙ register_length played.before.before.before.before.before.before.before.before)
 
-print_journals_requires : tie.Need-print-journals-requires
+print_journals_requires : tie.Need-print_journals-requires
 print_journals_requires c κs = search rules
 
 returns : tie.Need-returns

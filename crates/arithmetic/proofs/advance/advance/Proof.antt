@@ -22,33 +22,33 @@ turned c =
     let a = c.before.before.args in
     rw (c.power.ensures, mul_comm (ten_to a.n) a.flags) (turned_at_most a.n a.flags (omega arith))
 
-cast_apart : tie.Need-overflow-cast-apart
+cast_apart : tie.Need-overflow_cast-apart
 cast_apart c = search rules
 
-cast_apart_2 : tie.Need-overflow-cast-apart-2
+cast_apart_2 : tie.Need-overflow_cast-apart-2
 cast_apart_2 c = search rules
 
-sub_apart : tie.Need-overflow-sub-apart
+sub_apart : tie.Need-overflow_sub-apart
 sub_apart c = fits_difference c.args.newer c.args.older 4294967295 (omega arith) (omega arith) tt
 
-returns : tie.Need-returns
+returns : tie.Need-returns-then-flags-eq0
 returns c =
     let a = c.before.args in
-    (apart c.before).reads ∙ sym (ap (λ (f : ℕ). advance_of a.n a.newer f a.older) c.if1.true ∙ advance_plain a.n a.newer a.older)
+    (apart c.before).reads ∙ sym (ap (λ (f : ℕ). advance_of a.n a.newer f a.older) c.if-flags-eq0.true ∙ advance_plain a.n a.newer a.older)
 
 power_requires : tie.Need-power-requires
 power_requires c κs = search rules
 
-mul_turned : tie.Need-overflow-mul-turned
+mul_turned : tie.Need-overflow_mul-turned
 mul_turned c = omega (arith, turned c)
 
-cast_result : tie.Need-overflow-cast-result
+cast_result : tie.Need-overflow_cast-result
 cast_result c = omega (arith, turned c)
 
-add_result : tie.Need-overflow-add-result
+add_result : tie.Need-overflow_add-result
 add_result c = fits_sum (apart c.before.before) (word_cast (turned c) tt) tt
 
-returns_2 : tie.Need-returns-2
+returns_2 : tie.Need-returns
 unfolding advance_of
 returns_2 c =
     let a = c.before.before.args in

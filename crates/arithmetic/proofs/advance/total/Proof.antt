@@ -18,22 +18,22 @@ apart c = word_difference c.args.newer c.args.older 4294967295 (omega arith) (om
 turned : (c : tie.Start) → c.args.turn * c.args.flags ≤ 281470681677825
 turned c = mul-le-mul {n₂ = 4294967295} {m₂ = 65535} (omega arith) (omega arith)
 
-cast_apart : tie.Need-overflow-cast-apart
+cast_apart : tie.Need-overflow_cast-apart
 cast_apart c = search rules
 
-cast_apart_2 : tie.Need-overflow-cast-apart-2
+cast_apart_2 : tie.Need-overflow_cast-apart-2
 cast_apart_2 c = search rules
 
-sub_apart : tie.Need-overflow-sub-apart
+sub_apart : tie.Need-overflow_sub-apart
 sub_apart c = fits_difference c.args.newer c.args.older 4294967295 (omega arith) (omega arith) tt
 
-mul_turned : tie.Need-overflow-mul-turned
+mul_turned : tie.Need-overflow_mul-turned
 mul_turned c = omega (arith, turned c)
 
-cast_result : tie.Need-overflow-cast-result
+cast_result : tie.Need-overflow_cast-result
 cast_result c = omega (arith, turned c)
 
-add_result : tie.Need-overflow-add-result
+add_result : tie.Need-overflow_add-result
 add_result c = fits_sum (apart c) (word_cast (turned c) tt) tt
 
 returns : tie.Need-returns
@@ -43,4 +43,11 @@ returns c = λ n is. (word_sum (apart c) (word_cast (turned c) tt) tt).reads ∙
 pub total_spec : {M : Type 1} → statement M
 total_spec =
     tie.close
-    (tie.spec cast_apart cast_apart_2 sub_apart mul_turned cast_result add_result returns)
+    (tie.spec
+    cast_apart
+    cast_apart_2
+    sub_apart
+    mul_turned
+    cast_result
+    add_result
+    returns)

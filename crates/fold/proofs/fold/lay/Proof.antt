@@ -31,54 +31,54 @@ module _ (area : List ℕ) (t : Summary) (is : Counted area t) where
   laid_as h k o start left put after = rw (after, put, left, lent_entries start, o, k, h)
 
 -- the head ends within the area
-start_room : (c : tie.After-head-bytes) → c.head_bytes.result ≤ length c.before.before.before.args.area.now
+start_room : (c : tie.After-head_bytes-start) → c.head_bytes-start.result ≤ length c.before.before.before.args.area.now
 start_room c =
     let s = c.before.before.before in
-    omega (arith, c.head_bytes.ensures, head_small s.args.t.head, s.requires.0.long)
+    omega (arith, c.head_bytes-start.ensures, head_small s.args.t.head, s.requires.0.long)
 
-kept_is : (c : tie.After-kept-of) → c.kept_of.result ≡ recent_of (standing (journal_of c.before.before.before.before.before.args.area.now).entries)
+kept_is : (c : tie.After-kept_of-kept) → c.kept_of-kept.result ≡ recent_of (standing (journal_of c.before.before.before.before.before.args.area.now).entries)
 kept_is c =
     let start = c.before.before in
     let s = start.before.before.before in
-    c.kept_of.ensures ∙ ap (λ (es : List Entry). recent_of (standing es)) (lent_entries s.args.area.now s.args.t s.requires.0 start.head_bytes.ensures)
+    c.kept_of-kept.ensures ∙ ap (λ (es : List Entry). recent_of (standing es)) (lent_entries s.args.area.now s.args.t s.requires.0 start.head_bytes-start.ensures)
 
-head_bytes_requires : tie.Need-head-bytes-requires
+head_bytes_requires : tie.Need-head_bytes-start-requires
 head_bytes_requires c κs = search rules
 
-sub_kept_of : tie.Need-overflow-sub-kept-of
+sub_kept_of : tie.Need-slice_bounds-kept_of-count
 sub_kept_of c = start_room c
 
-part_kept_of_start : tie.Need-slice-bounds-kept-of-start
+part_kept_of_start : tie.Need-slice_bounds-kept_of-start
 part_kept_of_start c = start_room c
 
-part_kept_of_end : tie.Need-slice-bounds-kept-of-end
+part_kept_of_end : tie.Need-slice_bounds-kept_of-end
 part_kept_of_end c = search rules
 
-kept_of_requires : tie.Need-kept-of-requires
+kept_of_requires : tie.Need-kept_of-kept-requires
 kept_of_requires c κs = search rules
 
-head_after_requires : tie.Need-head-after-requires
+head_after_requires : tie.Need-head_after-head-requires
 head_after_requires c κs = let s = c.before.before.before.before.before in (s.requires.0, kept_is c, s.requires.1)
 
-day_of_requires : tie.Need-day-of-requires
+day_of_requires : tie.Need-day_of-oldest-requires
 day_of_requires c κs = search rules
 
-put_head_requires : tie.Need-put-head-requires
+put_head_requires : tie.Need-put_head-requires
 put_head_requires c κs = search rules
 
-sub_put_left : tie.Need-overflow-sub-put-left
+sub_put_left : tie.Need-slice_bounds-put_left-count
 sub_put_left c = start_room c.before.before.before.before.before.before.before.before.before
 
-part_put_left_start : tie.Need-slice-bounds-put-left-start
+part_put_left_start : tie.Need-slice_bounds-put_left-start
 part_put_left_start c = start_room c.before.before.before.before.before.before.before.before.before
 
-part_put_left_end : tie.Need-slice-bounds-put-left-end
+part_put_left_end : tie.Need-slice_bounds-put_left-end
 part_put_left_end c = search rules
 
-put_left_requires : tie.Need-put-left-requires
+put_left_requires : tie.Need-put_left-requires
 put_left_requires c κs = search rules
 
-same_length : tie.Need-same-length
+same_length : tie.Need-shape_of-left
 same_length c = search rules
 
 returns : tie.Need-returns
@@ -90,7 +90,7 @@ returns c =
     let kept = head.before in
     let start = kept.before.before in
     let s = start.before.before.before in
-    laid_as s.args.area.now s.args.t s.requires.0 head.head_after.ensures (kept_is kept) day.day_of.ensures start.head_bytes.ensures s.requires.2 left.put_head.ensures put.put_left.ensures
+    laid_as s.args.area.now s.args.t s.requires.0 head.head_after-head.ensures (kept_is kept) day.day_of-oldest.ensures start.head_bytes-start.ensures s.requires.2 left.put_head.ensures put.put_left.ensures
 
 pub lay_spec : {M : Type 1} → statement M
 lay_spec =

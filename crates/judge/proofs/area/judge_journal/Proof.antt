@@ -28,57 +28,57 @@ module _ (a : List ℕ) (known : (length a ≡ area_bytes) × (all_zero a ≡ fa
   by_body h = rw (known.0, known.1, h)
 
 -- where the body starts
-module _ (c : tie.After-head-bytes) where
+module _ (c : tie.After-head_bytes-start) where
   abbrev area : List ℕ
   area = c.before.before.before.before.before.args.area.now
 
-  starts : c.head_bytes.result ≡ head_bytes (head_of area)
-  starts = rw c.before.before.before.head_of_lem.ensures at c.head_bytes.ensures
+  starts : c.head_bytes-start.result ≡ head_bytes (head_of area)
+  starts = rw c.before.before.before.head_of_lem.ensures at c.head_bytes-start.ensures
 
-  room : c.head_bytes.result ≤ length area
+  room : c.head_bytes-start.result ≤ length area
   room = omega (arith, starts, body_length area c.before.before.before.before.before.requires.0)
 
-head_of_requires : tie.Need-head-of-requires
+head_of_requires : tie.Need-head_of-head-requires
 head_of_requires c κs = search rules
 
-is_head_requires : tie.Need-is-head-requires
+is_head_requires : tie.Need-is_head-requires
 is_head_requires c κs = search rules
 
-no_journal_requires : tie.Need-no-journal-requires
+no_journal_requires : tie.Need-no_journal-requires
 no_journal_requires c κs = search rules
 
-returns : tie.Need-returns
+returns : tie.Need-returns-then-not-is_head
 returns c =
     let checked = c.before.before in
     let start = checked.before.before.before in
-    damaged_answers c.no_journal.ensures (headless _ start.requires (sym checked.is_head.ensures ∙ not-true _ c.before.if1.true))
+    damaged_answers c.no_journal.ensures (headless _ start.requires (sym checked.is_head.ensures ∙ c.before.if-not-is_head.true))
 
-head_bytes_requires : tie.Need-head-bytes-requires
+head_bytes_requires : tie.Need-head_bytes-start-requires
 head_bytes_requires c κs = search rules
 
-sub_judge_body : tie.Need-overflow-sub-judge-body
+sub_judge_body : tie.Need-slice_bounds-judge_body-count
 sub_judge_body c = room c
 
-part_judge_body_start : tie.Need-slice-bounds-judge-body-start
+part_judge_body_start : tie.Need-slice_bounds-judge_body-start
 part_judge_body_start c = room c
 
-part_judge_body_end : tie.Need-slice-bounds-judge-body-end
+part_judge_body_end : tie.Need-slice_bounds-judge_body-end
 part_judge_body_end c = search rules
 
-judge_body_requires : tie.Need-judge-body-requires
+judge_body_requires : tie.Need-judge_body-requires
 judge_body_requires c κs =
     let h = c.before in
     let head = h.before.before.before in
-    lent_room (area h) head.head_of_lem.result h.head_bytes.result head.head_of_lem.ensures (starts h) head.before.before.requires.0
+    lent_room (area h) head.head_of_lem.result h.head_bytes-start.result head.head_of_lem.ensures (starts h) head.before.before.requires.0
 
-returns_2 : tie.Need-returns-2
+returns_2 : tie.Need-returns
 returns_2 c =
     let h = c.before.before in
     let head = h.before.before in
     let start = head.before.before.before in
     rw (
-      by_body _ start.requires (sym head.is_head.ensures ∙ not-false _ h.before.if1.false),
-      ← body_lent (area h) h.head_bytes.result (starts h),
+      by_body _ start.requires (sym head.is_head.ensures ∙ h.before.if-not-is_head.false),
+      ← body_lent (area h) h.head_bytes-start.result (starts h),
       ← head.before.head_of_lem.ensures,
     )
     c.judge_body.ensures

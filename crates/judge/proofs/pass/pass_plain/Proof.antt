@@ -10,46 +10,46 @@ use borrow.Author.Rules.{rules}
 use Rattle.judge.proofs.pass.pass_plain.Statement.{statement}
 use Rattle.judge.proofs.pass.pass_plain.Tie as tie
 
-takes_all_requires : tie.Need-takes-all-requires
+takes_all_requires : tie.Need-takes_all-requires
 takes_all_requires c κs = search rules
 
-returns : tie.Need-returns
+returns : tie.Need-returns-then-not-takes_all
 returns c = search rules
 
-returns_2 : tie.Need-returns-2
+returns_2 : tie.Need-returns-then-pass-from
 returns_2 c = search rules
 
-module _ (c : tie.Else2) where
-  abbrev all : tie.Else1
+module _ (c : tie.Else-pass-from) where
+  abbrev all : tie.Else-not-takes_all
   all = c.before.before.before.before
 
   abbrev start : tie.Start
   start = all.before.before.before.before
 
-  takes_all : takes_all start.args.limits.head.profile ≡ true
-  takes_all = sym all.before.takes_all.ensures ∙ not-false _ all.if1.left
+  takes_all : takes_all start.args.limits.head-1.profile ≡ true
+  takes_all = sym all.before.takes_all.ensures ∙ not-false _ all.if-not-takes_all.left
 
   -- none is held, and a read stands
   unheld : start.args.pass.held ≡ false
-  unheld = (neither start.args.pass.held _ c.if2.false).0
+  unheld = (neither start.args.pass.held _ c.if-pass-from.false).0
 
   some : start.args.pass.run.standing ≡ 0 → ⊥
-  some = eqb-false start.args.pass.run.standing 0 (neither start.args.pass.held _ c.if2.false).1
+  some = eqb-false start.args.pass.run.standing 0 (neither start.args.pass.held _ c.if-pass-from.false).1
 
-plain_over_requires : tie.Need-plain-over-requires
+plain_over_requires : tie.Need-plain_over-plain-requires
 plain_over_requires c κs =
-    let from = (start c).requires.0 in
+    let from = (start c).requires.most_in_bounds in
     (from.0, from.1, from.2, some c)
 
-run_over_requires : tie.Need-run-over-requires
+run_over_requires : tie.Need-run_over-run-requires
 run_over_requires c κs =
     let plain = c.before.plain_over_lem.ensures in
-    let from = (start c.before.before).pre in
+    let from = (start c.before.before).requires in
     ((from.0.0, plain.runs.few, plain.runs.run_is, plain.some), plain.indexed _ from.1)
 
-returns_3 : tie.Need-returns-3
+returns_3 : tie.Need-returns
 returns_3 c =
-    let run = c.run_over.ensures in
+    let run = c.run_over-run.ensures in
     let plain = c.before.before.plain_over_lem.ensures in
     let here = c.before.before.before in
     let p = (start here).args.pass in (
@@ -66,4 +66,10 @@ returns_3 c =
 pub pass_plain_spec : {M : Type 1} → statement M
 pass_plain_spec =
     tie.close
-    (tie.spec takes_all_requires returns returns_2 plain_over_requires run_over_requires returns_3)
+    (tie.spec
+    takes_all_requires
+    returns
+    returns_2
+    plain_over_requires
+    run_over_requires
+    returns_3)

@@ -20,20 +20,20 @@ use borrow.Author.Rules.{rules}
 use Rattle.judge.proofs.pass.pass_rest.Statement.{statement}
 use Rattle.judge.proofs.pass.pass_rest.Tie as tie
 
-abbrev invariant_loop : tie.invariant_loop
+abbrev invariant_loop : tie.invariant-loop-at
 invariant_loop body limits index₀ pass₀ at₀ index pass at = (at ≡ pass.run.count) × (at ≤ limits.most) × (pass.run ≡ run_of (entries_to pass.run.count body)) × ((head : Head) → IsLimits head limits → IsPass head body pass) × (count_from (limits.most - pass.run.count) pass.run.count body ≡ count_from limits.most 0 body) × Indexed body pass.run.count index
 
-abbrev decreases_loop : tie.decreases_loop
+abbrev decreases_loop : tie.decreases-loop-at
 decreases_loop body limits index₀ pass₀ at₀ index pass at = limits.most - at
 
-loop_holds : tie.Need-loop-init invariant_loop decreases_loop
+loop_holds : tie.Need-loop-at-init invariant_loop decreases_loop
 loop_holds c =
     let start = c.before.before in
-    let opened = start.requires.0.2 in
-    (refl, opened.few, pass_run _ _ _ (opened.pass _ start.requires.0.1).same, opened.pass, opened.goes, indexed_unwithdrawn _ _ opened.none start.requires.1)
+    let opened = start.requires.most_in_bounds.2 in
+    (refl, opened.few, pass_run _ _ _ (opened.pass _ start.requires.most_in_bounds.1).same, opened.pass, opened.goes, indexed_unwithdrawn _ _ opened.none start.requires.index_len)
 
 -- ---- at an entry
-module _ (c : tie.At-loop invariant_loop decreases_loop) where
+module _ (c : tie.At-loop-at invariant_loop decreases_loop) where
   abbrev start : tie.Start invariant_loop decreases_loop
   start = c.before.before.before
 
@@ -41,79 +41,79 @@ module _ (c : tie.At-loop invariant_loop decreases_loop) where
   body = start.args.body.now
 
   abbrev limits_are : IsLimits start.args.head start.args.limits
-  limits_are = start.pre.0.1
+  limits_are = start.requires.most_in_bounds.1
 
-  passed : IsPass start.args.head body c.loop.pass
-  passed = c.loop.invariant.3 start.args.head limits_are
+  passed : IsPass start.args.head body c.loop-at.pass
+  passed = c.loop-at.invariant.3 start.args.head limits_are
 
   room : entry_start start.args.limits.most ≤ length body
-  room = start.pre.0.0
+  room = start.requires.most_in_bounds.0
 
-cast_if2 : tie.Need-overflow-cast-if2 invariant_loop decreases_loop
+cast_if2 : tie.Need-overflow_cast-at invariant_loop decreases_loop
 cast_if2 c = search rules
 
-mul_if2 : tie.Need-overflow-mul-if2 invariant_loop decreases_loop
+mul_if2 : tie.Need-overflow_mul-at invariant_loop decreases_loop
 mul_if2 c = search rules
 
-shared_slice_read_if2 : tie.Need-shared-slice-read-if2 invariant_loop decreases_loop
-shared_slice_read_if2 c = omega (arith, room c.before.before.before, c.before.if1.true)
+shared_slice_read_if2 : tie.Need-bounds-body-at invariant_loop decreases_loop
+shared_slice_read_if2 c = omega (arith, room c.before.before.before, c.before.loop-at-test.true)
 
-returns : tie.Need-returns invariant_loop decreases_loop
+returns : tie.Need-returns-then-body-at-eq0 invariant_loop decreases_loop
 returns c =
     let turn = c.before.before in
     let loop = turn.before.before in
-    let inv = loop.loop.invariant in
-    let none = rw inv.0 at c.if2.true in
-    (all_passed _ _ _ (limits_are loop) refl (passed loop) (count_ends _ _ _ (omega (arith, turn.if1.true, inv.0)) none) inv.4, λ h. inv.5)
+    let inv = loop.loop-at.invariant in
+    let none = rw inv.0 at c.if-body-at-eq0.true in
+    (all_passed _ _ _ (limits_are loop) refl (passed loop) (count_ends _ _ _ (omega (arith, turn.loop-at-test.true, inv.0)) none) inv.4, λ h. inv.5)
 
-pass_next_requires : tie.Need-pass-next-requires invariant_loop decreases_loop
+pass_next_requires : tie.Need-pass_next-next-requires invariant_loop decreases_loop
 pass_next_requires c κs =
     let turn = c.before.before.before in
     let loop = turn.before.before in
-    let inv = loop.loop.invariant in
-    ((room loop, omega (arith, turn.if1.true, inv.0), inv.2), inv.5)
+    let inv = loop.loop-at.invariant in
+    ((room loop, omega (arith, turn.loop-at-test.true, inv.0), inv.2), inv.5)
 
 -- ---- an entry with a kind
-module _ (c : tie.After-pass-next invariant_loop decreases_loop) where
-  abbrev turn : tie.Then1 invariant_loop decreases_loop
+module _ (c : tie.After-pass_next-next invariant_loop decreases_loop) where
+  abbrev turn : tie.In-loop-at invariant_loop decreases_loop
   turn = c.before.before.before.before
 
-  abbrev loop : tie.At-loop invariant_loop decreases_loop
+  abbrev loop : tie.At-loop-at invariant_loop decreases_loop
   loop = turn.before.before
 
-  abbrev on : GoesOn (body loop) (start loop).args.limits loop.loop.pass c.pass_next.result
-  on = c.pass_next.ensures.0
+  abbrev on : GoesOn (body loop) (start loop).args.limits loop.loop-at.pass c.pass_next-next.result
+  on = c.pass_next-next.ensures.0
 
-  goes : count_from ((start loop).args.limits.most - c.pass_next.result.run.count) c.pass_next.result.run.count (body loop) ≡ count_from (start loop).args.limits.most 0 (body loop)
+  goes : count_from ((start loop).args.limits.most - c.pass_next-next.result.run.count) c.pass_next-next.result.run.count (body loop) ≡ count_from (start loop).args.limits.most 0 (body loop)
   goes =
-      let inv = loop.loop.inv in
-      let some = rw inv.0 at c.before.before.if2.false in
+      let inv = loop.loop-at.invariant in
+      let some = rw inv.0 at c.before.before.if-body-at-eq0.false in
       sym (on.goes some) ∙ inv.4
 
-returns_2 : tie.Need-returns-2 invariant_loop decreases_loop
+returns_2 : tie.Need-returns-then-not-next invariant_loop decreases_loop
 returns_2 c =
     let next = c.before.before in
     let l = loop next in
-    let bad = not-true _ c.if3.true in
+    let bad = c.if-not-next.true in
     (never_passed _ _ _ (limits_are l) bad ((on next).ends _ (limits_are l) (passed l) bad) (goes next), λ h. false_is (sym bad ∙ h))
 
-loop_less : tie.Need-loop-smaller invariant_loop decreases_loop
+loop_less : tie.Need-loop-at-smaller invariant_loop decreases_loop
 loop_less c =
     let next = c.before.before.before in
     let l = loop next in
-    omega (arith, (on next).more, (on next).few, l.loop.inv.0, (turn next).if1.true)
+    omega (arith, (on next).more, (on next).few, l.loop-at.invariant.0, (turn next).loop-at-test.true)
 
-loop_again : tie.Need-loop-preserved invariant_loop decreases_loop
+loop_again : tie.Need-loop-at-preserved invariant_loop decreases_loop
 loop_again c =
     let next = c.before.before.before in
     let l = loop next in
-    (refl, (on next).few, (on next).run_is, λ head limits. (on next).pass head limits (l.loop.inv.3 head limits) (not-false _ c.before.if3.false), goes next, next.pass_next.ensures.1)
+    (refl, (on next).few, (on next).run_is, λ head limits. (on next).pass head limits (l.loop-at.invariant.3 head limits) (c.before.if-not-next.false), goes next, next.pass_next-next.ensures.1)
 
-returns_3 : tie.Need-returns-3 invariant_loop decreases_loop
+returns_3 : tie.Need-returns invariant_loop decreases_loop
 returns_3 c =
     let l = c.before.before in
-    let inv = l.loop.invariant in
-    (all_passed _ _ _ (limits_are l) refl (passed l) (count_all _ _ _ (omega (arith, c.if1.false, inv.0))) inv.4, λ h. inv.5)
+    let inv = l.loop-at.invariant in
+    (all_passed _ _ _ (limits_are l) refl (passed l) (count_all _ _ _ (omega (arith, c.loop-at-test.false, inv.0))) inv.4, λ h. inv.5)
 
 pub pass_rest_spec : {M : Type 1} → statement M
 pass_rest_spec =

@@ -15,94 +15,94 @@ use borrow.Author.Rules.{rules}
 use Rattle.judge.proofs.run.run_over.Statement.{statement}
 use Rattle.judge.proofs.run.run_over.Tie as tie
 
-abbrev invariant_loop : tie.invariant_loop
+abbrev invariant_loop : tie.invariant-loop-k
 invariant_loop body limits index₀ from k₀ day₀ newest₀ standing₀ index k day newest standing = (from.standing ≤ standing) × (standing ≤ k) × RunsTo body limits from (ran_to from k day newest standing) × Indexed body k index
 
-abbrev decreases_loop : tie.decreases_loop
+abbrev decreases_loop : tie.decreases-loop-k
 decreases_loop body limits index₀ from k₀ day₀ newest₀ standing₀ index k day newest standing = limits.most - k
 
-loop_holds : tie.Need-loop-init invariant_loop decreases_loop
+loop_holds : tie.Need-loop-k-init invariant_loop decreases_loop
 loop_holds c =
     let start = c.before in
     let from = start.args.from in
-    (omega arith, (run_small from _ _ start.requires.0.2).1, rw (ran_start from) (runs_none _ _ _ start.requires.0.2 start.requires.0.1), start.requires.1)
+    (omega arith, (run_small from _ _ start.requires.most_in_bounds.2).1, rw (ran_start from) (runs_none _ _ _ start.requires.most_in_bounds.2 start.requires.most_in_bounds.1), start.requires.indexed)
 
-entry_at_requires : tie.Need-entry-at-requires invariant_loop decreases_loop
-entry_at_requires c κs = omega (arith, c.before.before.before.before.requires.0.0, c.if1.true)
+entry_at_requires : tie.Need-entry_at-e-requires invariant_loop decreases_loop
+entry_at_requires c κs = omega (arith, c.before.before.before.before.requires.most_in_bounds.0, c.loop-k-test.true)
 
-is_plain_body_requires : tie.Need-is-plain-body-requires invariant_loop decreases_loop
+is_plain_body_requires : tie.Need-is_plain_body-requires invariant_loop decreases_loop
 is_plain_body_requires c κs = search rules
 
-bucket_of_requires : tie.Need-bucket-of-requires invariant_loop decreases_loop
+bucket_of_requires : tie.Need-bucket_of-at-requires invariant_loop decreases_loop
 bucket_of_requires c κs = search rules
 
-cast_at : tie.Need-overflow-cast-at invariant_loop decreases_loop
+cast_at : tie.Need-overflow_cast-at invariant_loop decreases_loop
 cast_at c = search rules
 
-element_copy_out_there : tie.Need-element-copy-out-there invariant_loop decreases_loop
+element_copy_out_there : tie.Need-bounds-index-at invariant_loop decreases_loop
 element_copy_out_there c = search rules
 
-is_standing_requires : tie.Need-is-standing-requires invariant_loop decreases_loop
+is_standing_requires : tie.Need-is_standing-requires invariant_loop decreases_loop
 is_standing_requires c κs = search rules
 
-is_clear_requires : tie.Need-is-clear-requires invariant_loop decreases_loop
+is_clear_requires : tie.Need-is_clear-requires invariant_loop decreases_loop
 is_clear_requires c κs =
     let in_turn = c.before.before.before.before.before.before.before in
-    (omega (arith, in_turn.before.before.before.before.requires.0.0, in_turn.if1.true), omega (arith, in_turn.if1.true))
+    (omega (arith, in_turn.before.before.before.before.requires.most_in_bounds.0, in_turn.loop-k-test.true), omega (arith, in_turn.loop-k-test.true))
 
-add_standing : tie.Need-overflow-add-standing invariant_loop decreases_loop
+add_standing : tie.Need-overflow_add-standing invariant_loop decreases_loop
 add_standing c = omega arith
 
-is_withdrawn_requires : tie.Need-is-withdrawn-requires invariant_loop decreases_loop
+is_withdrawn_requires : tie.Need-is_withdrawn-requires invariant_loop decreases_loop
 is_withdrawn_requires c κs = search rules
 
-add_index : tie.Need-overflow-add-index invariant_loop decreases_loop
+add_index : tie.Need-overflow_add-index invariant_loop decreases_loop
 add_index c = omega arith
 
-element_write_index : tie.Need-element-write-index invariant_loop decreases_loop
+element_write_index : tie.Need-bounds-index-at-then-there-eq0 invariant_loop decreases_loop
 element_write_index c = search rules
 
-element_write_index_2 : tie.Need-element-write-index-2 invariant_loop decreases_loop
+element_write_index_2 : tie.Need-bounds-index-at-else-there-eq0 invariant_loop decreases_loop
 element_write_index_2 c = search rules
 
-add_k : tie.Need-overflow-add-k invariant_loop decreases_loop
-add_k c = omega (arith, c.before.before.before.before.before.before.before.if1.true)
+add_k : tie.Need-overflow_add-k invariant_loop decreases_loop
+add_k c = omega (arith, c.before.before.before.before.before.before.before.loop-k-test.true)
 
-loop_less : tie.Need-loop-smaller invariant_loop decreases_loop
-loop_less c = omega (arith, c.before.before.before.before.before.before.before.if1.true)
+loop_less : tie.Need-loop-k-smaller invariant_loop decreases_loop
+loop_less c = omega (arith, c.before.before.before.before.before.before.before.loop-k-test.true)
 
 -- ---- a plain entry
-module _ (c : tie.Joined3 invariant_loop decreases_loop) where
-  abbrev kind : tie.After-is-standing invariant_loop decreases_loop
+module _ (c : tie.Joined-is_standing invariant_loop decreases_loop) where
+  abbrev kind : tie.After-is_standing invariant_loop decreases_loop
   kind = c.before
 
-  abbrev bucket : tie.After-bucket-of invariant_loop decreases_loop
+  abbrev bucket : tie.After-bucket_of-at invariant_loop decreases_loop
   bucket = kind.before.before
 
-  abbrev read : tie.After-entry-at invariant_loop decreases_loop
+  abbrev read : tie.After-entry_at-e invariant_loop decreases_loop
   read = bucket.before.before.before
 
-  abbrev loop : tie.At-loop invariant_loop decreases_loop
+  abbrev loop : tie.At-loop-k invariant_loop decreases_loop
   loop = read.before.before.before
 
   abbrev start : tie.Start invariant_loop decreases_loop
   start = loop.before.before
 
-  plain : PlainBody start.args.limits loop.loop.day read.entry_at.result
-  plain = bucket.before.before.is_plain_body.ensures (not-false _ bucket.before.if2.left)
+  plain : PlainBody start.args.limits loop.loop-k.day read.entry_at-e.result
+  plain = bucket.before.before.is_plain_body.ensures (not-false _ bucket.before.if-not-is_plain_body.left)
 
-  there_is : get_or loop.loop.index (bucket_for read.entry_at.result) 0 ≡ get_or loop.loop.index bucket.bucket_of.result 0
-  there_is = ap (λ (n : ℕ). get_or loop.loop.index n 0) (sym bucket.bucket_of.ensures)
+  there_is : get_or loop.loop-k.index (bucket_for read.entry_at-e.result) 0 ≡ get_or loop.loop-k.index bucket.bucket_of-at.result 0
+  there_is = ap (λ (n : ℕ). get_or loop.loop-k.index n 0) (sym bucket.bucket_of-at.ensures)
 
-loop_again : tie.Need-loop-preserved invariant_loop decreases_loop
+loop_again : tie.Need-loop-k-preserved invariant_loop decreases_loop
 unfolding ran_to
 loop_again c =
-    let inv = (loop c).loop.invariant in
-    let at = (bucket c).bucket_of.ensures in
+    let inv = (loop c).loop-k.invariant in
+    let at = (bucket c).bucket_of-at.ensures in
     let from = (start c).args.from in
-    let e = (read c).entry_at.ensures in
-    let turn = (read c).before.if1.true in
-    let some : (loop c).loop.standing ≡ 0 → ⊥ = λ z. (start c).requires.0.3 (omega (arith, inv.0)) in
+    let e = (read c).entry_at-e.ensures in
+    let turn = (read c).before.loop-k-test.true in
+    let some : (loop c).loop-k.standing ≡ 0 → ⊥ = λ z. (start c).requires.most_in_bounds.3 (omega (arith, inv.0)) in
     ⊎_elim
     (λ w.
     (let stands = sym (kind c).is_standing.ensures ∙ w.0.taken in
@@ -130,15 +130,15 @@ loop_again c =
       runs_one inv.2 turn e (ran_withdrawn _ _ from _ _ _ _ (plain c) gone),
       rw at (indexed_taken _ _ _ inv.3 e (λ z. w.3.left (sym (there_is c) ∙ z))),
     ))))
-    c.if3.branch
+    c.if-is_standing.branch
 
-run_to_requires : tie.Need-run-to-requires invariant_loop decreases_loop
+run_to_requires : tie.Need-run_to-requires invariant_loop decreases_loop
 run_to_requires c κs = search rules
 
 returns : tie.Need-returns invariant_loop decreases_loop
 unfolding ran_to
 returns c =
-    let inv = c.before.before.before.loop.invariant in
+    let inv = c.before.before.before.loop-k.invariant in
     rw c.run_to.ensures (inv.2, inv.3)
 
 pub run_over_spec : {M : Type 1} → statement M

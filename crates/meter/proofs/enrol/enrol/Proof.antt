@@ -11,55 +11,55 @@ use Rattle.meter.proofs.enrol.enrol.Statement.{statement}
 use Rattle.meter.proofs.enrol.enrol.Tie as tie
 
 -- the register has the area
-here : (c : tie.After-start) → let start = c.before.before.before.before.before.args in located start.place start.register.now ≡ At c.start.given.0.0
-here c = sym c.before.before.locate.ensures.found_is ∙ c.start.given.1
+here : (c : tie.In-At-2) → let start = c.before.before.before.before.before.args in located start.place start.register-1.now ≡ At c.in-At.start
+here c = sym c.before.before.locate.ensures.found_is ∙ c.in-At.is
 
 locate_requires : tie.Need-locate-requires
 locate_requires c κs = search rules
 
-enum_known_number : tie.Need-enum-known-number
+enum_known_number : tie.Need-enum_known-number
 enum_known_number c = search rules
 
 refuse_requires : tie.Need-refuse-requires
 refuse_requires c κs = search rules
 
-enum_known_start : tie.Need-enum-known-start
+enum_known_start : tie.Need-enum_known-start
 enum_known_start c = search rules
 
-add_end : tie.Need-overflow-add-end
+add_end : tie.Need-overflow_add-end
 add_end c = omega (arith, has_area _ _ (here c.before))
 
-sub_enrol_in : tie.Need-overflow-sub-enrol-in
+sub_enrol_in : tie.Need-slice_bounds-enrol_in-count
 sub_enrol_in c = search rules
 
-part_enrol_in_start : tie.Need-slice-bounds-enrol-in-start
+part_enrol_in_start : tie.Need-slice_bounds-enrol_in-start
 part_enrol_in_start c = search rules
 
-part_enrol_in_end : tie.Need-slice-bounds-enrol-in-end
+part_enrol_in_end : tie.Need-slice_bounds-enrol_in-end
 part_enrol_in_end c = omega (arith, has_area _ _ (here c.before))
 
-enrol_in_requires : tie.Need-enrol-in-requires
+enrol_in_requires : tie.Need-enrol_in-requires
 enrol_in_requires c κs = search rules
 
-same_length : tie.Need-same-length
+same_length : tie.Need-shape_of-register-in-Refused
 same_length c = search rules
 
-returns : tie.Need-returns
+returns : tie.Need-returns-in-Refused
 unfolding place_of refusal_of
 returns c =
     let l = c.before.before.before.before in
     let start = l.before.before.before.args in
-    rw c.refuse.ensures (refuses (Enrol start.place start.profile start.dials start.capacity) start.register.now (sym l.locate.ensures.found_is ∙ c.before.before.number.given.1))
+    rw c.refuse.ensures (refuses (Enrol start.place start.profile start.dials start.capacity) start.register-1.now (sym l.locate.ensures.found_is ∙ c.before.before.in-Refused.is))
 
-same_length_2 : tie.Need-same-length-2
+same_length_2 : tie.Need-shape_of-register-in-At
 same_length_2 c = search rules
 
-returns_2 : tie.Need-returns-2
+returns_2 : tie.Need-returns-in-At
 unfolding place_of act
 returns_2 c =
     let e = c.before.before.before.before.before in
     let start = e.before.before.before.before.before.args in
-    writes (Enrol start.place start.profile start.dials start.capacity) start.register.now (here e) c.before.before.enrol_in.ensures
+    writes (Enrol start.place start.profile start.dials start.capacity) start.register-1.now (here e) c.before.before.enrol_in.ensures
 
 pub enrol_spec : {M : Type 1} → statement M
 enrol_spec =

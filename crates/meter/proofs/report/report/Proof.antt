@@ -11,44 +11,44 @@ use Rattle.meter.proofs.report.report.Statement.{statement}
 use Rattle.meter.proofs.report.report.Tie as tie
 
 -- the register has the area
-here : (c : tie.After-start) → let start = c.before.before.before.before.args in located start.place start.register.now ≡ At c.start.given.0.0
-here c = sym c.before.before.locate.ensures.found_is ∙ c.start.given.1
+here : (c : tie.In-At-2) → let start = c.before.before.before.before.args in located start.place start.register.now ≡ At c.in-At.start
+here c = sym c.before.before.locate.ensures.found_is ∙ c.in-At.is
 
 locate_requires : tie.Need-locate-requires
 locate_requires c κs = search rules
 
-enum_known_number : tie.Need-enum-known-number
+enum_known_number : tie.Need-enum_known-number
 enum_known_number c = search rules
 
-refuse_report_requires : tie.Need-refuse-report-requires
+refuse_report_requires : tie.Need-refuse_report-requires
 refuse_report_requires c κs = search rules
 
-enum_known_start : tie.Need-enum-known-start
+enum_known_start : tie.Need-enum_known-start
 enum_known_start c = search rules
 
-add_end : tie.Need-overflow-add-end
+add_end : tie.Need-overflow_add-end
 add_end c = omega (arith, has_area _ _ (here c.before))
 
-sub_report_area : tie.Need-overflow-sub-report-area
+sub_report_area : tie.Need-slice_bounds-report_area-count
 sub_report_area c = search rules
 
-part_report_area_start : tie.Need-slice-bounds-report-area-start
+part_report_area_start : tie.Need-slice_bounds-report_area-start
 part_report_area_start c = search rules
 
-part_report_area_end : tie.Need-slice-bounds-report-area-end
+part_report_area_end : tie.Need-slice_bounds-report_area-end
 part_report_area_end c = omega (arith, has_area _ _ (here c.before))
 
-report_area_requires : tie.Need-report-area-requires
+report_area_requires : tie.Need-report_area-requires
 report_area_requires c κs = lent_length _ _ (here c.before.before)
 
-returns : tie.Need-returns
+returns : tie.Need-returns-in-Refused
 unfolding place_of refusal_of
 returns c =
     let l = c.before.before.before.before in
     let start = l.before.before.args in
-    rw c.refuse_report.ensures (refuses (ReportCall start.place) start.register.now (sym l.locate.ensures.found_is ∙ c.before.before.number.given.1))
+    rw c.refuse_report.ensures (refuses (ReportCall start.place) start.register.now (sym l.locate.ensures.found_is ∙ c.before.before.in-Refused.is))
 
-returns_2 : tie.Need-returns-2
+returns_2 : tie.Need-returns-in-At
 unfolding place_of act
 returns_2 c =
     let e = c.before.before.before in

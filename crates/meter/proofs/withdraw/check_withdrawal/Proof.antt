@@ -24,58 +24,65 @@ unfolding slot_at is_not_last any
 last_stands day value [] h = false_is (sym h)
 last_stands day value (s ∷ ss) h = rw (not-false (has_read day value s) h)
 
-module _ (c : tie.After-is-not-last) where
+module _ (c : tie.After-is_not_last) where
   abbrev start : tie.Start
   start = c.before.before
 
   last_is : is_not_last start.args.day start.args.value (slot_at (standing (journal_of start.args.area.now).entries) 0) ≡ c.is_not_last.result
-  last_is = sym (c.is_not_last.ensures _ start.pre.summary)
+  last_is = sym (c.is_not_last.ensures _ start.requires.summary)
 
-standing_is : (c : tie.After-has-standing) → let s = (start c.before.before).args in any (has_read s.day s.value) (standing (journal_of s.area.now).entries) ≡ c.has_standing.result
-standing_is c = sym (c.has_standing.ensures (start c.before.before).pre)
+standing_is : (c : tie.After-has_standing) → let s = (start c.before.before).args in any (has_read s.day s.value) (standing (journal_of s.area.now).entries) ≡ c.has_standing.result
+standing_is c = sym (c.has_standing.ensures (start c.before.before).requires)
 
-is_not_last_requires : tie.Need-is-not-last-requires
+is_not_last_requires : tie.Need-is_not_last-requires
 is_not_last_requires c κs = search rules
 
-has_standing_requires : tie.Need-has-standing-requires
+has_standing_requires : tie.Need-has_standing-requires
 has_standing_requires c κs = search rules
 
-returns : tie.Need-returns
+returns : tie.Need-returns-then-has_standing
 unfolding withdraw_rules is_not_standing
 returns c =
     let h = c.before in
-    rw (standing_is h, c.if2.true, last_is h.before.before, h.before.if1.true)
+    rw (standing_is h, c.if-has_standing.true, last_is h.before.before, h.before.if-is_not_last.true)
 
-returns_2 : tie.Need-returns-2
+returns_2 : tie.Need-returns-then-is_not_last
 unfolding withdraw_rules is_not_standing
-returns_2 c = rw (standing_is c.before, c.if2.false)
+returns_2 c = rw (standing_is c.before, c.if-has_standing.false)
 
 -- the read is the last: whether it is the oldest too
-counted_alone : (j : Journal) (t : Summary) → t ≡ summary_of j → j.head.carried && eqb (length (standing j.entries)) 1 ≡ t.head.carried && eqb t.counts.standing 1
+counted_alone : (j : Journal) (t : Summary) → t ≡ summary_of j → j.head-1.carried && eqb (length (standing j.entries)) 1 ≡ t.head-1.carried && eqb t.counts-1.standing 1
 unfolding summary_of counts_of
 counted_alone j t e = rw e
 
-module _ (c : tie.After-struct-known2) where
-  abbrev there : tie.After-is-not-last
+module _ (c : tie.After-struct_known-2-1) where
+  abbrev there : tie.After-is_not_last
   there = c.before.before.before.before.before
 
   abbrev reads : List Entry
   reads = standing (journal_of (start there).args.area.now).entries
 
   last : is_not_last (start there).args.day (start there).args.value (slot_at reads 0) ≡ false
-  last = last_is there ∙ c.before.before.before.before.if1.false
+  last = last_is there ∙ c.before.before.before.before.if-is_not_last.false
 
-  oldest : is_oldest_kept (start there).args.day (start there).args.value (journal_of (start there).args.area.now).head (oldest_of reads) ≡ (start there).args.t.head.carried && eqb (start there).args.t.counts.standing 1
-  oldest = alone_oldest _ _ _ (start there).pre.sound last ∙ counted_alone _ _ (start there).pre.summary
+  oldest : is_oldest_kept (start there).args.day (start there).args.value (journal_of (start there).args.area.now).head-1 (oldest_of reads) ≡ (start there).args.t.head-1.carried && eqb (start there).args.t.counts-1.standing 1
+  oldest = alone_oldest _ _ _ (start there).requires.sound last ∙ counted_alone _ _ (start there).requires.summary
 
-returns_3 : tie.Need-returns-3
+returns_3 : tie.Need-returns-then-head-counts
 unfolding withdraw_rules is_not_standing
-returns_3 c = rw (last_stands _ _ _ (last c.before), last c.before, oldest c.before, c.if3.true)
+returns_3 c = rw (last_stands _ _ _ (last c.before), last c.before, oldest c.before, c.if-head-counts.true)
 
-returns_4 : tie.Need-returns-4
+returns_4 : tie.Need-returns
 unfolding withdraw_rules is_not_standing
-returns_4 c = rw (last_stands _ _ _ (last c.before), last c.before, oldest c.before, c.if3.false)
+returns_4 c = rw (last_stands _ _ _ (last c.before), last c.before, oldest c.before, c.if-head-counts.false)
 
 pub check_withdrawal_spec : {M : Type 1} → statement M
 check_withdrawal_spec =
-    tie.close (tie.spec is_not_last_requires has_standing_requires returns returns_2 returns_3 returns_4)
+    tie.close
+    (tie.spec
+    is_not_last_requires
+    has_standing_requires
+    returns
+    returns_2
+    returns_3
+    returns_4)

@@ -29,29 +29,36 @@ module _ (c : tie.After-advance) where
   abbrev start : tie.Start
   start = c.before.before.before.before
 
-  advanced : AdvanceWord c.advance.result (advance_of start.args.n start.args.r0.value start.args.r0.flag c.before.before.second.given.0.0.value)
+  advanced : AdvanceWord c.advance.result (advance_of start.args.n start.args.r0.value start.args.r0.flag c.before.before.in-Read.r1.value)
   advanced = advance_word _ _ _ _ c.advance.ensures (omega arith) (omega arith) (omega arith)
 
-enum_known_second : tie.Need-enum-known-second
+enum_known_second : tie.Need-enum_known-second
 enum_known_second c = search rules
 
 advance_requires : tie.Need-advance-requires
 advance_requires c κs = search rules
 
-sub_result : tie.Need-overflow-sub-result
+sub_result : tie.Need-overflow_sub-result
 sub_result c = fits (advanced c)
 
-enum_told : tie.Need-enum-told
+enum_told : tie.Need-enum_told-1
 enum_told c = search rules
 
-returns : tie.Need-returns
+returns : tie.Need-returns-in-Read
 unfolding advance_over
-returns c = reads (advanced c) ∙ sym (ap neg_ℤ (ap (advance_over _ _ _) c.before.before.second.given.1))
+returns c = reads (advanced c) ∙ sym (ap neg_ℤ (ap (advance_over _ _ _) c.before.before.in-Read.is))
 
-returns_2 : tie.Need-returns-2
+returns_2 : tie.Need-returns-in-Empty
 unfolding advance_over
-returns_2 c = rw c.enum_told.given.1
+returns_2 c = rw c.in-Empty.is
 
 pub take_back_spec : {M : Type 1} → statement M
 take_back_spec =
-    tie.close (tie.spec enum_known_second advance_requires sub_result enum_told returns returns_2)
+    tie.close
+    (tie.spec
+    enum_known_second
+    advance_requires
+    sub_result
+    enum_told
+    returns
+    returns_2)

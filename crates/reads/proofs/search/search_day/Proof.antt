@@ -18,64 +18,64 @@ one_at_most : (b : Bool) → bool_byte b ≤ 1
 one_at_most true = omega arith
 one_at_most false = omega arith
 
-cast_not_found : tie.Need-overflow-cast-not-found
+cast_not_found : tie.Need-overflow_cast-counts
 cast_not_found c = search rules
 
-not_found_requires : tie.Need-not-found-requires
+not_found_requires : tie.Need-not_found-requires
 not_found_requires c κs = search rules
 
-returns : tie.Need-returns
+returns : tie.Need-returns-then-t-day
 returns c =
     let t = c.before.before.before.before.before.before.before.args.t in
-    λ is. c.not_found.ensures ∙ newest_earlier _ _ (stands_is _ t is) (rises _ t is) (omega (arith, day_is _ t is, c.before.before.if1.true))
+    λ is. c.not_found.ensures ∙ newest_earlier _ _ (stands_is _ t is) (rises _ t is) (omega (arith, day_is _ t is, c.before.before.if-t-day.true))
 
-has_entry_requires : tie.Need-has-entry-requires
+has_entry_requires : tie.Need-has_entry-requires
 has_entry_requires c κs = search rules
 
-not_found_requires_2 : tie.Need-not-found-requires-2
+not_found_requires_2 : tie.Need-not_found-requires-then-not-has_entry
 not_found_requires_2 c κs = search rules
 
-returns_2 : tie.Need-returns-2
+returns_2 : tie.Need-returns-then-not-has_entry
 returns_2 c =
     let none = c.before in
-    λ is. c.not_found2.ensures ∙ none_standing _ _ (no_room _ _ is (sym none.before.has_entry.ensures ∙ not-true _ none.if2.true))
+    λ is. c.not_found-then-not-has_entry.ensures ∙ none_standing _ _ (no_room _ _ is (sym none.before.has_entry.ensures ∙ none.if-not-has_entry.true))
 
-head_bytes_requires : tie.Need-head-bytes-requires
+head_bytes_requires : tie.Need-head_bytes-start-requires
 head_bytes_requires c κs = search rules
 
-module _ (c : tie.After-head-bytes) where
+module _ (c : tie.After-head_bytes-start) where
   abbrev start : tie.Start
   start = c.before.before.before.before.before.before.before.before
 
-  one : bool_byte (ltb 0 start.args.t.counts.standing) ≤ 1
-  one = one_at_most (ltb 0 start.args.t.counts.standing)
+  one : bool_byte (ltb 0 start.args.t.counts-1.standing) ≤ 1
+  one = one_at_most (ltb 0 start.args.t.counts-1.standing)
 
-  room : has_room start.args.area.now start.args.t.head (suc start.args.t.counts.newest) ≡ true
-  room = sym c.before.before.has_entry.ensures ∙ not-false _ c.before.if2.false
+  room : has_room start.args.area.now start.args.t.head-1 (suc start.args.t.counts-1.newest) ≡ true
+  room = sym c.before.before.has_entry.ensures ∙ c.before.if-not-has_entry.false
 
-sub_search_back : tie.Need-overflow-sub-search-back
-sub_search_back c = start_room _ (start c).args.t.head _ (room c) c.head_bytes.ensures
+sub_search_back : tie.Need-slice_bounds-search_back-count
+sub_search_back c = start_room _ (start c).args.t.head-1 _ (room c) c.head_bytes-start.ensures
 
-part_search_back_start : tie.Need-slice-bounds-search-back-start
-part_search_back_start c = start_room _ (start c).args.t.head _ (room c) c.head_bytes.ensures
+part_search_back_start : tie.Need-slice_bounds-search_back-start
+part_search_back_start c = start_room _ (start c).args.t.head-1 _ (room c) c.head_bytes-start.ensures
 
-part_search_back_end : tie.Need-slice-bounds-search-back-end
+part_search_back_end : tie.Need-slice_bounds-search_back-end
 part_search_back_end c = search rules
 
-cast_search_back : tie.Need-overflow-cast-search-back
+cast_search_back : tie.Need-overflow_cast-counts-2
 cast_search_back c = search rules
 
-add_search_back : tie.Need-overflow-add-search-back
-add_search_back c = let h = c.before.before.before in omega (arith, few_entries _ (start h).args.t.head _ (room h) h.head_bytes.ensures, one h)
+add_search_back : tie.Need-overflow_add-counts
+add_search_back c = let h = c.before.before.before in omega (arith, few_entries _ (start h).args.t.head-1 _ (room h) h.head_bytes-start.ensures, one h)
 
-search_back_requires : tie.Need-search-back-requires
-search_back_requires c κs = let h = c.before.before.before in omega (arith, lent_room _ (start h).args.t.head _ (room h) h.head_bytes.ensures, one h)
+search_back_requires : tie.Need-search_back-requires
+search_back_requires c κs = let h = c.before.before.before in omega (arith, lent_room _ (start h).args.t.head-1 _ (room h) h.head_bytes-start.ensures, one h)
 
-returns_3 : tie.Need-returns-3
+returns_3 : tie.Need-returns
 returns_3 c =
     let h = c.before.before.before.before in
     let t = (start h).args.t in
-    λ is. rw (lent_all _ t is h.head_bytes.ensures) at c.search_back.ensures ∙ search_right _ _ (rises _ t is)
+    λ is. rw (lent_all _ t is h.head_bytes-start.ensures) at c.search_back.ensures ∙ search_right _ _ (rises _ t is)
 
 pub search_day_spec : {M : Type 1} → statement M
 search_day_spec =

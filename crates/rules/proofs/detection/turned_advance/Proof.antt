@@ -15,10 +15,10 @@ plain c = advance_word _ _ _ _ c.advance.ensures (omega arith) (omega arith) (om
 advance_requires : tie.Need-advance-requires
 advance_requires c κs = search rules
 
-cast_result : tie.Need-overflow-cast-result
+cast_result : tie.Need-overflow_cast-result
 cast_result c = power_fits _ _ c.before.requires
 
-add_result : tie.Need-overflow-add-result
+add_result : tie.Need-overflow_add-result
 add_result c = fits_sum (plain c) (power_word _ _ c.before.requires) tt
 
 returns : tie.Need-returns
@@ -27,4 +27,10 @@ returns c =
     (word_sum (plain c) (power_word _ _ c.before.requires) tt).reads ∙ advance_turned a.n a.s.value a.r0.value
 
 pub turned_advance_spec : {M : Type 1} → statement M
-turned_advance_spec = tie.close (tie.spec advance_requires cast_result add_result returns)
+turned_advance_spec =
+    tie.close
+    (tie.spec
+    advance_requires
+    cast_result
+    add_result
+    returns)

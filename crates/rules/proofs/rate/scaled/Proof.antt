@@ -16,22 +16,22 @@ module _ (c : tie.Start) where
   days : Word (of_z w64 (to_z w64 c.args.later -ℤ to_z w64 c.args.earlier)) (pos c.args.later -ℤ pos c.args.earlier) 65535
   days = word_difference c.args.later c.args.earlier 65535 (omega arith) (omega arith) tt
 
-cast_result : tie.Need-overflow-cast-result
+cast_result : tie.Need-overflow_cast-result
 cast_result c = search rules
 
-mul_result : tie.Need-overflow-mul-result
+mul_result : tie.Need-overflow_mul-result
 mul_result c = fits_product (factor c) (word_of c.requires tt) tt
 
-cast_result_2 : tie.Need-overflow-cast-result-2
+cast_result_2 : tie.Need-overflow_cast-result-2
 cast_result_2 c = search rules
 
-cast_result_3 : tie.Need-overflow-cast-result-3
+cast_result_3 : tie.Need-overflow_cast-result-3
 cast_result_3 c = search rules
 
-sub_result : tie.Need-overflow-sub-result
+sub_result : tie.Need-overflow_sub-result
 sub_result c = fits_difference c.args.later c.args.earlier 65535 (omega arith) (omega arith) tt
 
-mul_result_2 : tie.Need-overflow-mul-result-2
+mul_result_2 : tie.Need-overflow_mul-result-2
 mul_result_2 c = fits_product (word_product (factor c) (word_of c.requires tt) tt) (days c) tt
 
 returns : tie.Need-returns
@@ -41,4 +41,11 @@ returns c = (word_product (word_product (factor c) (word_of c.requires tt) tt) (
 pub scaled_spec : {M : Type 1} → statement M
 scaled_spec =
     tie.close
-    (tie.spec cast_result mul_result cast_result_2 cast_result_3 sub_result mul_result_2 returns)
+    (tie.spec
+    cast_result
+    mul_result
+    cast_result_2
+    cast_result_3
+    sub_result
+    mul_result_2
+    returns)

@@ -13,55 +13,55 @@ use borrow.Author.Rules.{rules}
 use Rattle.rules.proofs.volume.compare.Statement.{statement}
 use Rattle.rules.proofs.volume.compare.Tie as tie
 
-module _ (c : tie.After-advance) where
+module _ (c : tie.After-advance-p) where
   abbrev start : tie.Start
   start = c.before.before.before.before
 
   abbrev p : ℤ
-  p = last_advance start.args.n start.args.r0 c.before.before.second.given.0.0
+  p = last_advance start.args.n start.args.r0 c.before.before.in-Read.r1
 
-  earlier : AdvanceWord c.advance.result p
-  earlier = advance_word _ _ _ _ c.advance.ensures (omega arith) (omega arith) (omega arith)
+  earlier : AdvanceWord c.advance-p.result p
+  earlier = advance_word _ _ _ _ c.advance-p.ensures (omega arith) (omega arith) (omega arith)
 
 -- what the test sees
-asked : (c : tie.After-has-threshold) → c.has_threshold.result && lt_z (pos 0) (to_z w64 (of_z w64 c.before.advance.result)) ≡ has_threshold (start c.before).args.s && lt_z (pos 0) (p c.before)
+asked : (c : tie.After-has_threshold) → c.has_threshold.result && lt_z (pos 0) (to_z w64 (of_z w64 c.before.advance-p.result)) ≡ has_threshold (start c.before).args.s && lt_z (pos 0) (p c.before)
 asked c = ap₂ ◌&&◌ c.has_threshold.ensures (ap (lt_z (pos 0)) (earlier c.before).reads)
 
-enum_known_second : tie.Need-enum-known-second
+enum_known_second : tie.Need-enum_known-second
 enum_known_second c = search rules
 
-enum_told : tie.Need-enum-told
+enum_told : tie.Need-enum_told-1
 enum_told c = search rules
 
-returns : tie.Need-returns
+returns : tie.Need-returns-in_default
 unfolding compared
-returns c = rw c.enum_told.given.1
+returns c = rw c.in_default.is
 
-advance_requires : tie.Need-advance-requires
+advance_requires : tie.Need-advance-p-requires
 advance_requires c κs = search rules
 
-has_threshold_requires : tie.Need-has-threshold-requires
+has_threshold_requires : tie.Need-has_threshold-requires
 has_threshold_requires c κs = search rules
 
-compare_with_requires : tie.Need-compare-with-requires
-compare_with_requires c κs = (word_within (word_of (start c.before.before).pre tt), word_within (earlier c.before.before))
+compare_with_requires : tie.Need-compare_with-requires
+compare_with_requires c κs = (word_within (word_of (start c.before.before).requires tt), word_within (earlier c.before.before))
 
-returns_2 : tie.Need-returns-2
+returns_2 : tie.Need-returns-then-has_threshold-p
 unfolding compared
 returns_2 c =
     let b = c.before.before.before in
     rw (
-      b.before.before.second.given.1,
+      b.before.before.in-Read.is,
       ← asked c.before.before,
-      c.before.if1.true,
+      c.before.if-has_threshold-p.true,
       c.compare_with.ensures,
       (word_of (start b).requires tt).reads,
       (earlier b).reads,
     )
 
-returns_3 : tie.Need-returns-3
+returns_3 : tie.Need-returns
 unfolding compared
-returns_3 c = rw (c.before.before.before.before.second.given.1, ← asked c.before, c.if1.false)
+returns_3 c = rw (c.before.before.before.before.in-Read.is, ← asked c.before, c.if-has_threshold-p.false)
 
 pub compare_spec : {M : Type 1} → statement M
 compare_spec =

@@ -19,57 +19,57 @@ use Rattle.submit.proofs.decide.decide.Tie as tie
 all_of : (area : List ℕ) → length area ≡ area_bytes → mid_of 0 (area_bytes - 0) area ≡ area
 all_of area size = take_all area_bytes area (omega (arith, size))
 
-meant : (c : tie.After-judge-area) {found : Judged} → c.judge_area.result.found ≡ found → Means c.before.before.args.s c.before.before.args.area.now found
-meant c h = rw (sym c.judge_area.ensures.0.found_is ∙ h) at (means c.before.before.args.s c.before.before.args.area.now c.before.before.requires)
+meant : (c : tie.After-judge_area-judgement) {found : Judged} → c.judge_area-judgement.result.found ≡ found → Means c.before.before.args.s c.before.before.args.area.now found
+meant c h = rw (sym c.judge_area-judgement.ensures.0.found_is ∙ h) at (means c.before.before.args.s c.before.before.args.area.now c.before.before.requires)
 
-judge_area_requires : tie.Need-judge-area-requires
+judge_area_requires : tie.Need-judge_area-judgement-requires
 judge_area_requires c κs = search rules
 
-enum_told : tie.Need-enum-told
+enum_told : tie.Need-enum_told-1
 enum_told c = search rules
 
 refused_requires : tie.Need-refused-requires
 refused_requires c κs = search rules
 
-enum_told_2 : tie.Need-enum-told-2
+enum_told_2 : tie.Need-enum_told-in-Damaged
 enum_told_2 c = search rules
 
-refused_requires_2 : tie.Need-refused-requires-2
+refused_requires_2 : tie.Need-refused-requires-in-Damaged
 refused_requires_2 c κs = search rules
 
-enum_known_found : tie.Need-enum-known-found
+enum_known_found : tie.Need-enum_known-found
 enum_known_found c = search rules
 
-sub_whole : tie.Need-overflow-sub-whole
+sub_whole : tie.Need-slice_bounds-whole-count
 sub_whole c = search rules
 
-part_whole_start : tie.Need-slice-bounds-whole-start
+part_whole_start : tie.Need-slice_bounds-whole-start
 part_whole_start c = search rules
 
-part_whole_end : tie.Need-slice-bounds-whole-end
+part_whole_end : tie.Need-slice_bounds-whole-end
 part_whole_end c = omega (arith, c.before.before.before.before.before.requires)
 
-decide_sound_requires : tie.Need-decide-sound-requires
+decide_sound_requires : tie.Need-decide_sound-requires
 unfolding is_withdrawn_read
 decide_sound_requires c κs =
     let judged = c.before.before.before.before in
     let start = judged.before.before in
     let area = start.args.area.now in
-    let e = c.before.before.found.given.1 in
-    let counted = judged_counted area (rw e at judged.judge_area.ensures.0) in
-    rw (all_of area start.requires) (counted, withdrawn_counted area counted judged.judge_area.ensures.1 e)
+    let e = c.before.before.in-Sound.is in
+    let counted = judged_counted area (rw e at judged.judge_area-judgement.ensures.0) in
+    rw (all_of area start.requires) (counted, withdrawn_counted area counted judged.judge_area-judgement.ensures.1 e)
 
-returns : tie.Need-returns
-returns c = c.refused.ensures ∙ sym (meant c.before.before.before c.before.enum_told.given.1)
+returns : tie.Need-returns-in-Zero
+returns c = c.refused.ensures ∙ sym (meant c.before.before.before c.before.in-Zero.is)
 
-returns_2 : tie.Need-returns-2
-returns_2 c = c.refused2.ensures ∙ sym (meant c.before.before.before c.before.enum_told2.given.1)
+returns_2 : tie.Need-returns-in-Damaged
+returns_2 c = c.refused-in-Damaged.ensures ∙ sym (meant c.before.before.before c.before.in-Damaged.is)
 
-returns_3 : tie.Need-returns-3
+returns_3 : tie.Need-returns-in-Sound
 returns_3 c =
     let judged = c.before.before.before.before.before in
     let start = judged.before.before in
-    rw (all_of start.args.area.now start.requires) at c.decide_sound.ensures ∙ sym (meant judged c.before.before.before.found.given.1)
+    rw (all_of start.args.area.now start.requires) at c.decide_sound.ensures ∙ sym (meant judged c.before.before.before.in-Sound.is)
 
 pub decide_spec : {M : Type 1} → statement M
 decide_spec =

@@ -19,33 +19,33 @@ detect_requires c κs = search rules
 indicate_requires : tie.Need-indicate-requires
 indicate_requires c κs = search rules
 
-enum_told : tie.Need-enum-told
+enum_told : tie.Need-enum_told-1
 enum_told c = search rules
 
 refused_requires : tie.Need-refused-requires
 refused_requires c κs = search rules
 
-enum_told_2 : tie.Need-enum-told-2
+enum_told_2 : tie.Need-enum_told-in-Unclear
 enum_told_2 c = search rules
 
-refused_requires_2 : tie.Need-refused-requires-2
+refused_requires_2 : tie.Need-refused-requires-in-Unclear
 refused_requires_2 c κs = search rules
 
-enum_known_flag : tie.Need-enum-known-flag
+enum_known_flag : tie.Need-enum_known-flag
 enum_known_flag c = search rules
 
 weigh_requires : tie.Need-weigh-requires
 weigh_requires c κs = search rules
 
-returns : tie.Need-returns
-returns c = λ j e p. c.refused.ensures ∙ sym (denied _ j (sym (found c.before.before.before j e p) ∙ c.before.enum_told.given.1))
+returns : tie.Need-returns-in-Denied
+returns c = λ j e p. c.refused.ensures ∙ sym (denied _ j (sym (found c.before.before.before j e p) ∙ c.before.in-Denied.is))
 
-returns_2 : tie.Need-returns-2
-returns_2 c = λ j e p. c.refused2.ensures ∙ sym (unclear _ j (sym (found c.before.before.before j e p) ∙ c.before.enum_told2.given.1))
+returns_2 : tie.Need-returns-in-Unclear
+returns_2 c = λ j e p. c.refused-in-Unclear.ensures ∙ sym (unclear _ j (sym (found c.before.before.before j e p) ∙ c.before.in-Unclear.is))
 
-returns_3 : tie.Need-returns-3
+returns_3 : tie.Need-returns-in-Flag
 unfolding summary_of counts_of recent_of
-returns_3 c = λ j e p. rw (e, p) at c.weigh.ensures ∙ sym (flagged _ j _ (sym (found c.before.before.before.before j e p) ∙ c.before.before.flag.given.1))
+returns_3 c = λ j e p. rw (e, p) at c.weigh.ensures ∙ sym (flagged _ j _ (sym (found c.before.before.before.before j e p) ∙ c.before.before.in-Flag.is))
 
 pub judge_spec : {M : Type 1} → statement M
 judge_spec =

@@ -11,44 +11,44 @@ use Rattle.submit.proofs.trial.trial.Statement.{statement}
 use Rattle.submit.proofs.trial.trial.Tie as tie
 
 -- the register has the area
-here : (c : tie.After-start) → let start = c.before.before.before.before.args in located start.place start.register.now ≡ At c.start.given.0.0
-here c = sym c.before.before.locate.ensures.found_is ∙ c.start.given.1
+here : (c : tie.In-At-2) → let start = c.before.before.before.before.args in located start.place start.register.now ≡ At c.in-At.start
+here c = sym c.before.before.locate.ensures.found_is ∙ c.in-At.is
 
 locate_requires : tie.Need-locate-requires
 locate_requires c κs = search rules
 
-enum_known_number : tie.Need-enum-known-number
+enum_known_number : tie.Need-enum_known-number
 enum_known_number c = search rules
 
 refuse_requires : tie.Need-refuse-requires
 refuse_requires c κs = search rules
 
-enum_known_start : tie.Need-enum-known-start
+enum_known_start : tie.Need-enum_known-start
 enum_known_start c = search rules
 
-add_end : tie.Need-overflow-add-end
+add_end : tie.Need-overflow_add-end
 add_end c = omega (arith, has_area _ _ (here c.before))
 
-sub_trial_in : tie.Need-overflow-sub-trial-in
+sub_trial_in : tie.Need-slice_bounds-trial_in-count
 sub_trial_in c = search rules
 
-part_trial_in_start : tie.Need-slice-bounds-trial-in-start
+part_trial_in_start : tie.Need-slice_bounds-trial_in-start
 part_trial_in_start c = search rules
 
-part_trial_in_end : tie.Need-slice-bounds-trial-in-end
+part_trial_in_end : tie.Need-slice_bounds-trial_in-end
 part_trial_in_end c = omega (arith, has_area _ _ (here c.before))
 
-trial_in_requires : tie.Need-trial-in-requires
+trial_in_requires : tie.Need-trial_in-requires
 trial_in_requires c κs = lent_length _ _ (here c.before.before)
 
-returns : tie.Need-returns
+returns : tie.Need-returns-in-Refused
 unfolding place_of refusal_of
 returns c =
     let l = c.before.before.before.before in
     let start = l.before.before.args in
-    rw c.refuse.ensures (ap (λ (d : Done). d.reply) (refuses (Submit start.place start.s) start.register.now (sym l.locate.ensures.found_is ∙ c.before.before.number.given.1)))
+    rw c.refuse.ensures (ap (λ (d : Done). d.reply) (refuses (Submit start.place start.s) start.register.now (sym l.locate.ensures.found_is ∙ c.before.before.in-Refused.is)))
 
-returns_2 : tie.Need-returns-2
+returns_2 : tie.Need-returns-in-At
 unfolding place_of act
 returns_2 c =
     let e = c.before.before.before in

@@ -15,43 +15,43 @@ use borrow.Author.Rules.{rules}
 use Rattle.tally.proofs.change.last_without.Statement.{statement}
 use Rattle.tally.proofs.change.last_without.Tie as tie
 
-turned : (c : tie.After-struct-known2) →
+turned : (c : tie.After-struct_known-2-1) →
     let l = c.before.before.before in
-    l.limit_of.result * l.before.args.flag ≤ 255000000000
+    l.limit_of-limit.result * l.before.args.flag ≤ 255000000000
 turned c =
     let l = c.before.before.before in
     let a = l.before.args in
-    rw (l.limit_of.ensures, mul_comm (ten_to a.t.dials) a.flag) (turned_at_most a.t.dials a.flag (omega arith))
+    rw (l.limit_of-limit.ensures, mul_comm (ten_to a.t.dials) a.flag) (turned_at_most a.t.dials a.flag (omega arith))
 
-limit_of_requires : tie.Need-limit-of-requires
+limit_of_requires : tie.Need-limit_of-limit-requires
 limit_of_requires c κs = search rules
 
 shown_requires : tie.Need-shown-requires
 shown_requires c κs = search rules
 
-returns : tie.Need-returns
+returns : tie.Need-returns-then-t-eq1
 unfolding without_read moved_to
 returns c =
     let only = c.before in
     let l = only.before.before in
-    c.shown.ensures ∙ rw (l.limit_of.ensures, eq-eqb l.before.args.t.standing 1 only.if1.true)
+    c.shown.ensures ∙ rw (l.limit_of-limit.ensures, eq-eqb l.before.args.t.standing 1 only.if-t-eq1.true)
 
-cast_from : tie.Need-overflow-cast-from
+cast_from : tie.Need-overflow_cast-from
 cast_from c = search rules
 
-cast_from_2 : tie.Need-overflow-cast-from-2
+cast_from_2 : tie.Need-overflow_cast-from-2
 cast_from_2 c = search rules
 
-mul_from : tie.Need-overflow-mul-from
+mul_from : tie.Need-overflow_mul-from
 mul_from c = omega (arith, turned c)
 
-add_from : tie.Need-overflow-add-from
+add_from : tie.Need-overflow_add-from
 add_from c = omega (arith, turned c)
 
-move_by_requires : tie.Need-move-by-requires
+move_by_requires : tie.Need-move_by-requires
 move_by_requires c κs = omega (arith, turned c)
 
-returns_2 : tie.Need-returns-2
+returns_2 : tie.Need-returns
 unfolding without_read last_without
 returns_2 c =
     let others = c.before.before in
@@ -59,9 +59,9 @@ returns_2 c =
     let a = l.before.args in
     c.move_by.ensures
     ∙ rw (
-      l.limit_of.ensures,
+      l.limit_of-limit.ensures,
       to_z-of_z w64 a.advance l.before.ranges.advance,
-      ne_eqb a.t.standing 1 others.if1.false,
+      ne_eqb a.t.standing 1 others.if-t-eq1.false,
       flag_first a.t.last a.flag (ten_to a.t.dials) a.advance,
     )
 

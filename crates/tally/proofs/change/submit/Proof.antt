@@ -12,40 +12,47 @@ use borrow.Author.Rules.{rules}
 use Rattle.tally.proofs.change.submit.Statement.{statement}
 use Rattle.tally.proofs.change.submit.Tie as tie
 
-tally_number_requires : tie.Need-tally-number-requires
+tally_number_requires : tie.Need-tally_number-requires
 tally_number_requires c κs = search rules
 
-fits : (c : tie.Else1) → Fits c.before.before.args.t
-fits c = number_fits c.before.before.args.t (sym c.before.tally_number.ensures ∙ c.if1.false)
+fits : (c : tie.Else-tally_number-ne-ACCEPTED) → Fits c.before.before.args.t
+fits c = number_fits c.before.before.args.t (sym c.before.tally_number.ensures ∙ c.if-tally_number-ne-ACCEPTED.false)
 
-first_is : (c : tie.Joined2) →
+first_is : (c : tie.Joined-t-eq0) →
     let a = c.before.before.before.before.args in
-    c.if2.first ≡ cond (eqb a.t.standing 0) a.value a.t.first
+    c.if-t-eq0.first ≡ cond (eqb a.t.standing 0) a.value a.t.first
 first_is c =
-    ⊎_elim (λ w. w.1 ∙ rw (eq-eqb _ 0 w.0.taken)) (λ w. w.1 ∙ rw (ne_eqb _ 0 w.0.left)) c.if2.branch
+    ⊎_elim (λ w. w.1 ∙ rw (eq-eqb _ 0 w.0.taken)) (λ w. w.1 ∙ rw (ne_eqb _ 0 w.0.left)) c.if-t-eq0.branch
 
-returns : tie.Need-returns
-returns c = rw (ne_eqb _ accepted (λ e. c.if1.true (c.before.tally_number.ensures ∙ e)))
+returns : tie.Need-returns-then-tally_number-ne-ACCEPTED
+returns c = rw (ne_eqb _ accepted (λ e. c.if-tally_number-ne-ACCEPTED.true (c.before.tally_number.ensures ∙ e)))
 
-add_t8 : tie.Need-overflow-add-t8
+add_t8 : tie.Need-overflow_add-next
 add_t8 c = omega (arith, (fits c.before.before.before).few)
 
-add_t10 : tie.Need-overflow-add-t10
+add_t10 : tie.Need-overflow_add-next-2
 add_t10 c =
     let f = fits c.before.before.before.before in
     omega (arith, f.fewer, f.few)
 
-made_to_requires : tie.Need-made-to-requires
+made_to_requires : tie.Need-made_to-requires
 made_to_requires c κs = search rules
 
-returns_2 : tie.Need-returns-2
+returns_2 : tie.Need-returns
 unfolding made_to may_be tally_for with_read
 returns_2 c =
     let joined = c.before.before.before in
     let e = joined.before.before in
     c.made_to.ensures
-    ∙ rw (eq-eqb _ accepted (sym e.before.tally_number.ensures ∙ e.if1.false), first_is joined)
+    ∙ rw (eq-eqb _ accepted (sym e.before.tally_number.ensures ∙ e.if-tally_number-ne-ACCEPTED.false), first_is joined)
 
 pub submit_spec : {M : Type 1} → statement M
 submit_spec =
-    tie.close (tie.spec tally_number_requires returns add_t8 add_t10 made_to_requires returns_2)
+    tie.close
+    (tie.spec
+    tally_number_requires
+    returns
+    add_t8
+    add_t10
+    made_to_requires
+    returns_2)

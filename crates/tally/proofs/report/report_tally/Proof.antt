@@ -12,43 +12,43 @@ use borrow.Author.Rules.{rules}
 use Rattle.tally.proofs.report.report_tally.Statement.{statement}
 use Rattle.tally.proofs.report.report_tally.Tie as tie
 
-tally_number_requires : tie.Need-tally-number-requires
+tally_number_requires : tie.Need-tally_number-number-requires
 tally_number_requires c κs = search rules
 
-refuse_report_requires : tie.Need-refuse-report-requires
+refuse_report_requires : tie.Need-refuse_report-requires
 refuse_report_requires c κs = search rules
 
-reports : (c : tie.Else1) → tally_number c.before.before.args.t ≡ accepted
-reports c = sym c.before.tally_number.ensures ∙ c.if1.false
+reports : (c : tie.Else-number-ne-ACCEPTED) → tally_number c.before.before.args.t ≡ accepted
+reports c = sym c.before.tally_number-number.ensures ∙ c.if-number-ne-ACCEPTED.false
 
-returns : tie.Need-returns
+returns : tie.Need-returns-then-number-ne-ACCEPTED
 unfolding tally_report
 returns c =
     let n = c.before.before in
-    c.refuse_report.ensures ∙ rw (n.tally_number.ensures, ne_eqb _ accepted (λ e. c.before.if1.true (n.tally_number.ensures ∙ e)))
+    c.refuse_report.ensures ∙ rw (n.tally_number-number.ensures, ne_eqb _ accepted (λ e. c.before.if-number-ne-ACCEPTED.true (n.tally_number-number.ensures ∙ e)))
 
-cast_flagged : tie.Need-overflow-cast-flagged
+cast_flagged : tie.Need-overflow_cast-flagged
 cast_flagged c =
     let f = number_fits _ (reports c.before) in
     omega (arith, f.fewer, f.few)
 
-cast_t5 : tie.Need-overflow-cast-t5
+cast_t5 : tie.Need-overflow_cast-result
 cast_t5 c = omega (arith, (number_fits _ (reports c.before.before)).few)
 
-limit_of_requires : tie.Need-limit-of-requires
+limit_of_requires : tie.Need-limit_of-requires
 limit_of_requires c κs = search rules
 
 total_requires : tie.Need-total-requires
 total_requires c κs = search rules
 
-returns_2 : tie.Need-returns-2
+returns_2 : tie.Need-returns
 unfolding tally_report tally_total
 returns_2 c =
     let e = c.before.before.before.before in
     let t = e.before.before.args.t in
     let number = reports e in
     let sum = to_z-of_z w64 _ (sfits_of c.total.type_inv) ∙ c.total.ensures t.dials c.before.limit_of.ensures in
-    rw (eq-eqb _ accepted number, e.if1.false, sum)
+    rw (eq-eqb _ accepted number, e.if-number-ne-ACCEPTED.false, sum)
 
 pub report_tally_spec : {M : Type 1} → statement M
 report_tally_spec =

@@ -1,0 +1,38 @@
+-- What was put is what stays of the entries passed.
+use mathlib.Core.Path.{◌≡◌, refl, ◌∙◌}
+use Prim.Native.Nat.{◌-◌, ◌≤◌}
+use native.Mathlib.Omega.{arith}
+use borrow.Author.Rules.{rules}
+use lib.ListN.{length}
+use Rattle.terms.specs.Entry.{those}
+use Rattle.journal.specs.Journal.{entries_to, put_entries}
+use Rattle.journal.proofs.Entries.{one_more}
+use Rattle.calls.specs.Fold.{stays}
+use Rattle.fold.proofs.left.put_left.Goals as goal
+
+pub loop-k-init : goal.loop-k-init
+unfolding entries_to those put_entries
+loop-k-init c = (omega arith, omega arith, refl, refl, refl)
+
+pub put_next-count-requires : goal.put_next-count-requires
+put_next-count-requires c = let loop = c in omega (arith, loop.loop-k.invariant.0, loop.loop-k.invariant.1)
+
+pub overflow_add-k : goal.overflow_add-k
+overflow_add-k c = omega arith
+
+pub loop-k-smaller : goal.loop-k-smaller
+loop-k-smaller c = omega arith
+
+pub loop-k-preserved : goal.loop-k-preserved
+unfolding those
+loop-k-preserved c =
+    let put = c in
+    let entry = put in
+    let inv = entry.loop-k.invariant in
+    let more = put.put_next-count.ensures.1 _ _ inv.3 inv.4 in
+    (omega arith, omega (arith, put.put_next-count.ensures.0, inv.1), put.put_next-count.auto.0 ∙ inv.2, rw (one_more, ← entry.entry_after-e.ensures) more.0, rw (one_more, ← entry.entry_after-e.ensures) more.1)
+
+pub returns : goal.returns
+returns c =
+    let e : c.loop-k.k ≡ c.args.m = omega (arith, c.loop-k.invariant.0) in
+    rw e at c.loop-k.invariant.4

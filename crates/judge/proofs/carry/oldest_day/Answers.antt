@@ -1,0 +1,48 @@
+-- None of the entries passed stands; the first that does is the oldest of all.
+use mathlib.Core.Path.{◌≡◌, refl}
+use mathlib.Core.List.{[]}
+use Prim.Native.Nat.{◌-◌, ◌≤◌}
+use native.Mathlib.Omega.{arith}
+use borrow.Author.Rules.{rules}
+use Rattle.terms.specs.Entry.{those}
+use Rattle.journal.specs.Journal.{entries_to, standing, oldest_of, day_of}
+use Rattle.judge.proofs.Carries.{none_yet, oldest_is}
+use Rattle.judge.proofs.carry.oldest_day.Goals as goal
+
+pub loop-k-init : goal.loop-k-init
+unfolding those entries_to
+loop-k-init c = (omega arith, refl)
+
+pub returns-then-is_standing : goal.returns-then-is_standing
+returns-then-is_standing c =
+    let stands = c in
+    let read = stands in
+    let old = read in
+    oldest_is
+    _
+    old.loop-k.k
+    read.entry_at-e.ensures
+    stands.is_standing.ensures
+    old.loop-k.invariant.1
+    _
+    (omega arith)
+    c.if-is_standing.true
+
+pub overflow_add-k : goal.overflow_add-k
+overflow_add-k c = omega arith
+
+pub loop-k-smaller : goal.loop-k-smaller
+loop-k-smaller c = omega arith
+
+pub loop-k-preserved : goal.loop-k-preserved
+loop-k-preserved c =
+    let stands = c in
+    let read = stands in
+    let old = read in
+    (omega arith, none_yet _ old.loop-k.k read.entry_at-e.ensures stands.is_standing.ensures old.loop-k.invariant.1 c.if-is_standing.false)
+
+pub returns : goal.returns
+unfolding oldest_of day_of
+returns c =
+    let e : c.loop-k.k ≡ c.args.m = omega arith in
+    rw (← e, c.loop-k.invariant.1)

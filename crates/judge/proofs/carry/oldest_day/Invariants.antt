@@ -1,0 +1,16 @@
+-- None of the entries passed stands; the first that does is the oldest of all.
+use mathlib.Core.Path.{◌≡◌, refl}
+use mathlib.Core.List.{[]}
+use Prim.Native.Nat.{◌-◌, ◌≤◌}
+use native.Mathlib.Omega.{arith}
+use borrow.Author.Rules.{rules}
+use Rattle.terms.specs.Entry.{those}
+use Rattle.journal.specs.Journal.{entries_to, standing, oldest_of, day_of}
+use Rattle.judge.proofs.Carries.{none_yet, oldest_is}
+use Rattle.judge.proofs.carry.oldest_day.Given as goal
+
+abbrev pub invariant-loop-k : goal.invariant-loop-k
+invariant-loop-k l = (l.k ≤ l.m) × (standing (entries_to l.k l.body) ≡ [])
+
+abbrev pub decreases-loop-k : goal.decreases-loop-k
+decreases-loop-k l = l.m - l.k

@@ -1,0 +1,39 @@
+-- A place more where an entry stands, and the same places where it does not.
+use mathlib.Core.Path.{◌≡◌}
+use mathlib.Core.Logic.{⊎_elim}
+use Prim.Native.Nat.{◌-◌, ◌≤◌}
+use native.Mathlib.Omega.{arith}
+use borrow.Author.Rules.{rules}
+use lib.ListN.{length, length-set}
+use Rattle.judge.specs.Inner.Halving.{Places}
+use Rattle.judge.proofs.Halved.{places_none, places_stand, places_pass}
+use Rattle.judge.proofs.halving.note_standing.Goals as goal
+
+pub loop-k-init : goal.loop-k-init
+loop-k-init c = (omega arith, c.requires.m_in_bounds_2, places_none _ _)
+
+pub overflow_mul-kind : goal.overflow_mul-kind
+overflow_mul-kind c = omega arith
+
+pub bounds-body-k : goal.bounds-body-k
+bounds-body-k c = omega arith
+
+pub overflow_add-n : goal.overflow_add-n
+overflow_add-n c = omega arith
+
+pub overflow_add-k : goal.overflow_add-k
+overflow_add-k c = omega arith
+
+pub loop-k-smaller : goal.loop-k-smaller
+loop-k-smaller c = omega arith
+
+pub loop-k-preserved : goal.loop-k-preserved
+loop-k-preserved c =
+    let room = c.loop-k.invariant.1 in
+    let old = c.loop-k.invariant.2 in
+    (omega arith, ⊎_elim (λ w. rw w.1 (simp length-set room)) (λ w. rw w.1 room) c.if-kind-eq-STANDING.branch, ⊎_elim (λ w. rw (w.1, w.2) (places_stand _ _ _ _ old (omega arith) w.0.taken)) (λ w. rw (w.1, w.2) (places_pass _ _ _ _ old w.0.left)) c.if-kind-eq-STANDING.branch)
+
+pub returns : goal.returns
+returns c =
+    let e : c.loop-k.k ≡ c.args.m = omega arith in
+    rw e at c.loop-k.invariant.2

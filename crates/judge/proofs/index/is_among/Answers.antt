@@ -1,0 +1,32 @@
+-- The flag is the definition's over the entries passed, the newest first.
+use mathlib.Core.Path.{◌≡◌, refl}
+use Prim.Native.Nat.{◌-◌, ◌≤◌}
+use native.Mathlib.Omega.{arith}
+use borrow.Author.Rules.{rules}
+use Rattle.terms.specs.Entry.{is_withdrawn, those}
+use Rattle.journal.specs.Journal.{entries_to, withdrawn}
+use Rattle.journal.specs.Sound.{any, has_read}
+use Rattle.journal.proofs.Entries.{those_more, any_kept}
+use Rattle.judge.proofs.index.is_among.Goals as goal
+
+pub loop-k-init : goal.loop-k-init
+unfolding any those entries_to
+loop-k-init c = (omega arith, refl)
+
+pub overflow_add-k : goal.overflow_add-k
+overflow_add-k c = omega arith
+
+pub loop-k-smaller : goal.loop-k-smaller
+loop-k-smaller c = omega arith
+
+pub loop-k-preserved : goal.loop-k-preserved
+loop-k-preserved c =
+    let gone = c in
+    let read = gone in
+    let old = read in
+    (omega arith, rw (those_more _ _ is_withdrawn read.entry_at-e.ensures gone.is_withdrawn.ensures, any_kept, c.has_read.ensures, old.loop-k.invariant.1))
+
+pub returns : goal.returns
+returns c =
+    let e : c.loop-k.k ≡ c.args.m = omega arith in
+    rw e at c.loop-k.invariant.1

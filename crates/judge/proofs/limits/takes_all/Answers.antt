@@ -1,0 +1,12 @@
+-- Each arm's answer is its profile's.
+use borrow.Author.Rules.{rules}
+use Rattle.judge.specs.Inner.Plain.{takes_all}
+use Rattle.judge.proofs.limits.takes_all.Goals as goal
+
+pub returns-in-Ordinary : goal.returns-in-Ordinary
+unfolding takes_all
+returns-in-Ordinary c = rw c.in-Ordinary.is
+
+pub returns-in-Pseudo : goal.returns-in-Pseudo
+unfolding takes_all
+returns-in-Pseudo c = rw c.in-Pseudo.is

@@ -1,0 +1,38 @@
+-- Each test gives one part of what a first read is.
+use mathlib.Core.Path.{◌≡◌, sym, ◌∙◌}
+use Prim.Native.Nat.{◌+◌, ◌*◌}
+use native.Mathlib.Omega.{arith}
+use borrow.Author.Tests.{eqb-true, not-false}
+use Rattle.journal.proofs.Bools.{false_is}
+use borrow.Author.Rules.{rules}
+use Rattle.judge.proofs.opening.is_first.Goals as goal
+
+pub returns-then-not-is_standing : goal.returns-then-not-is_standing
+returns-then-not-is_standing c = λ h. false_is h
+
+pub returns-then-e-eq0 : goal.returns-then-e-eq0
+returns-then-e-eq0 c = λ h. false_is h
+
+pub returns-then-limit-e : goal.returns-then-limit-e
+returns-then-limit-e c = λ h. false_is h
+
+pub returns-then-not-is_opening : goal.returns-then-not-is_opening
+returns-then-not-is_opening c = λ h. false_is h
+
+pub returns : goal.returns
+returns c =
+    let opening = c in
+    let small = opening in
+    let dated = small in
+    let kind = dated in
+    let e = kind.args.e in
+    λ h.
+    (let low : e.indicator + 256 * e.flag ≡ 0 = eqb-true _ _ h in
+    record {
+      stands = sym kind.is_standing.ensures ∙ kind.if-not-is_standing.false;
+      dated = dated.if-e-eq0.false;
+      small = small.if-limit-e.false;
+      opening = sym opening.is_opening.ensures ∙ opening.if-not-is_opening.false;
+      indicator = omega arith;
+      flag = omega arith;
+    })

@@ -1,0 +1,8 @@
+-- The entry ends within the body, and each field is read where the definition has it.
+use Rattle.register.specs.Entries.{entry_at}
+use borrow.Author.Rules.{rules}
+use Rattle.judge.proofs.read.entry_at.Goals as goal
+
+pub returns : goal.returns
+unfolding entry_at
+returns c = let read = c in rw (read.word_at-day.ensures, read.long_at-value.ensures)

@@ -1,0 +1,10 @@
+-- What one more entry changes is `run_more`.
+use mathlib.Core.Path.{refl}
+use Rattle.judge.proofs.Runs.{run_more}
+use borrow.Author.Rules.{rules}
+use Rattle.judge.proofs.run.stand.Goals as goal
+
+pub returns : goal.returns
+returns c =
+    let first = c in
+    (refl, λ es s flagged h. rw (run_more, ← h, s, flagged, first.first_with-first.ensures))

@@ -1,0 +1,21 @@
+-- The number and one byte more, as the definition has it.
+use native.Mathlib.Omega.{arith}
+use Rattle.lines.specs.Line.{field}
+use Rattle.lines.specs.Decimal.{decimal}
+use Rattle.lines.proofs.Pasted.{put_more, room_first, room_more}
+use borrow.Author.Rules.{rules}
+use Rattle.lines.proofs.line.put_field.Goals as goal
+
+pub put_decimal-end-requires : goal.put_decimal-end-requires
+unfolding field
+put_decimal-end-requires c = room_first _ _ c.requires
+
+pub overflow_add-result : goal.overflow_add-result
+unfolding field
+overflow_add-result c =
+    let put = c in
+    omega (arith, put.put_decimal-end.ensures.ends, room_more (decimal put.args.n) 32 put.requires)
+
+pub returns : goal.returns
+unfolding field
+returns c = put_more c.put_decimal-end.ensures _ c.put_byte.ensures

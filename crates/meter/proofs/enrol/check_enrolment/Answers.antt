@@ -1,0 +1,16 @@
+-- The two tests in the definition's order.
+use Rattle.calls.specs.Checks.{enrol_checks}
+use borrow.Author.Rules.{rules}
+use Rattle.meter.proofs.enrol.check_enrolment.Goals as goal
+
+pub returns-then-not-is_zero : goal.returns-then-not-is_zero
+unfolding enrol_checks
+returns-then-not-is_zero c = rw (← c.is_zero.ensures, c.if-not-is_zero.true)
+
+pub returns-then-not-is_plate : goal.returns-then-not-is_plate
+unfolding enrol_checks
+returns-then-not-is_plate c = rw (← c.is_zero.ensures, c.if-not-is_zero.false, ← c.is_plate.ensures, c.if-not-is_plate.true)
+
+pub returns : goal.returns
+unfolding enrol_checks
+returns c = rw (← c.is_zero.ensures, c.if-not-is_zero.false, ← c.is_plate.ensures, c.if-not-is_plate.false)

@@ -1,0 +1,5 @@
+use mathlib.Core.Path.{refl}
+use Rattle.meter.proofs.search.refuse_search.Goals as goal
+
+pub returns : goal.returns
+returns c = refl

@@ -1,0 +1,10 @@
+-- The line of a refusal with the sheet's number.
+use Rattle.sheet.specs.Sheet.{next_number}
+use borrow.Author.Rules.{rules}
+use Rattle.playing.proofs.turn.put_fault.Goals as goal
+
+pub returns : goal.returns
+unfolding next_number
+returns c =
+    let put = c in
+    rw put.refuse.ensures at put.put_reply.ensures

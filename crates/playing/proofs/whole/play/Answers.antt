@@ -1,0 +1,40 @@
+-- What is left of the sheet, played on what the turns so far left, makes the whole of it; at the end nothing is left.
+use Prim.Native.Nat.{◌-◌}
+use native.Mathlib.Omega.{arith}
+use lib.ListN.{length}
+use Rattle.playing.proofs.Turns.{Playing, begun, turned, over, over_long}
+use borrow.Author.Rules.{rules}
+use Rattle.playing.proofs.whole.play.Goals as goal
+
+pub returns-then-sheet-gt-MOST_BYTES : goal.returns-then-sheet-gt-MOST_BYTES
+returns-then-sheet-gt-MOST_BYTES c =
+    let put = c in
+    over_long put.if-sheet-gt-MOST_BYTES.true put.put_fault.ensures
+
+pub loop-at-init : goal.loop-at-init
+loop-at-init c = begun _ _ _ c.if-sheet-gt-MOST_BYTES.false
+
+pub play_next-p-requires : goal.play_next-p-requires
+play_next-p-requires c =
+    let turn = c in
+    record { short = omega arith; more = turn.loop-at-test.true; few = turn.loop-at.invariant.few }
+
+pub loop-at-smaller : goal.loop-at-smaller
+loop-at-smaller c =
+    let played = c in
+    omega (arith, played.play_next-p.ensures.on)
+
+pub loop-at-preserved : goal.loop-at-preserved
+loop-at-preserved c =
+    let played = c in
+    let turn = played in
+    turned _ _ _ turn.loop-at.invariant turn.loop-at-test.true played.play_next-p.ensures played.play_next-p.auto.1.0 played.play_next-p.auto.1.1.0
+
+pub shape_of-register : goal.shape_of-register
+shape_of-register c = c.loop-at.invariant.same_register
+
+pub shape_of-out : goal.shape_of-out
+shape_of-out c = c.loop-at.invariant.same_out
+
+pub returns : goal.returns
+returns c = over _ _ _ c.loop-at.invariant c.loop-at-test.false

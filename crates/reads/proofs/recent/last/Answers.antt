@@ -1,0 +1,13 @@
+-- None where none stands, and else the entry at the newest's position.
+use mathlib.Core.Path.{◌∙◌}
+use Rattle.terms.specs.Entry.{slot_at}
+use Rattle.reads.proofs.Counted.{none_stand, newest_in}
+use borrow.Author.Rules.{rules}
+use Rattle.reads.proofs.recent.last.Goals as goal
+
+pub returns-then-counts-eq0 : goal.returns-then-counts-eq0
+unfolding slot_at
+returns-then-counts-eq0 c = λ is. rw (none_stand _ _ is c.if-counts-eq0.true)
+
+pub returns : goal.returns
+returns c = λ is. c.entry_in.ensures ∙ newest_in _ _ is c.if-counts-eq0.false

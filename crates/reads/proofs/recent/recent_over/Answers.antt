@@ -1,0 +1,31 @@
+-- One step back finds the standing entry before the last, or that there is none, and another the one before that.
+use native.Mathlib.Omega.{arith}
+use Rattle.terms.specs.Entry.{slot_at, recent_of}
+use Rattle.reads.proofs.Back.{none_left, one_left}
+use borrow.Author.Rules.{rules}
+use Rattle.reads.proofs.recent.recent_over.Goals as goal
+
+pub returns-then-b-eq0 : goal.returns-then-b-eq0
+unfolding recent_of slot_at
+returns-then-b-eq0 c =
+    let b = c in
+    rw (none_left _ _ _ b.back-b.ensures c.if-b-eq0.true, b.entry_at.ensures)
+
+pub entry_at-requires-2 : goal.entry_at-requires-2
+entry_at-requires-2 c = omega (arith, c.back-b.ensures.fewer)
+
+pub last_over-third-requires : goal.last_over-third-requires
+last_over-third-requires c = omega (arith, c.back-b.ensures.fewer)
+
+pub returns : goal.returns
+unfolding recent_of slot_at
+returns c =
+    let two = c in
+    let left = two in
+    let b = left in
+    rw (
+      one_left _ _ _ b.back-b.ensures left.if-b-eq0.false,
+      b.entry_at.ensures,
+      two.entry_at-2.ensures,
+      c.last_over-third.ensures,
+    )

@@ -1,0 +1,21 @@
+-- A tally of zeros is the one that reports 3; of the next none of the numbers is below 0.
+use mathlib.Core.Path.{sym, ◌∙◌}
+use Rattle.calls.proofs.Bools.{by_test}
+use Rattle.tally.specs.Tally.{is_zero}
+use Rattle.tally.specs.Change.{tally_for, may_be, made_to, enrolled}
+use Rattle.tally.proofs.Fits.{zero_number, number_zero}
+use borrow.Author.Rules.{rules}
+use Rattle.tally.proofs.change.enrol.Goals as goal
+
+pub returns-then-tally_number-ne-NO_METER : goal.returns-then-tally_number-ne-NO_METER
+returns-then-tally_number-ne-NO_METER c =
+    let t = c.args.t in
+    by_test (is_zero t)
+    (λ h. absurd (c.if-tally_number-ne-NO_METER.true (c.tally_number.ensures ∙ zero_number t h)))
+    (λ h. rw h)
+
+pub returns : goal.returns
+unfolding made_to may_be tally_for enrolled
+returns c =
+    let n = c in
+    c.made_to.ensures ∙ rw (number_zero n.args.t (sym n.tally_number.ensures ∙ c.if-tally_number-ne-NO_METER.false))

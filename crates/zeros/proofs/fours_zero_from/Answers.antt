@@ -1,0 +1,10 @@
+-- The first four bytes reach the last four, and those the end.
+use native.Mathlib.Omega.{arith}
+use borrow.Author.Rules.{rules}
+use Rattle.zeros.proofs.Blocks.{both_ends}
+use Rattle.zeros.proofs.fours_zero_from.Goals as goal
+
+pub returns : goal.returns
+returns c =
+    let start = c in
+    both_ends _ _ 4 _ _ start.requires.0 (omega (arith, start.requires.1)) start.requires.2 c.four_at.ensures c.four_at-2.ensures
