@@ -29,10 +29,10 @@ unfolding made_to may_be tally_for with_read
 returns c =
     let a = c.args in
     let first_is : c.if-t-eq0.first ≡ cond (eqb a.t.standing 0) a.value a.t.first =
-        elim c.if-t-eq0.branch [
-          then-t-eq0 w ↦ w.first-is ∙ rw (eq-eqb _ 0 w.if-t-eq0.true)
-          | else-t-eq0 w ↦ w.first-is ∙ rw (ne_eqb _ 0 w.if-t-eq0.false)
-        ]
+    elim c.if-t-eq0.branch [
+      | then-t-eq0 w ↦ w.first-is ∙ rw (eq-eqb _ 0 w.if-t-eq0.true)
+      | else-t-eq0 w ↦ w.first-is ∙ rw (ne_eqb _ 0 w.if-t-eq0.false)
+    ]
     in
     c.made_to.ensures
     ∙ rw (eq-eqb _ accepted (sym c.tally_number.ensures ∙ c.if-tally_number-ne-ACCEPTED.false), first_is)
