@@ -33,7 +33,7 @@ module _ (c : tie.After-head_bytes-start) where
   area = c.before.before.before.before.before.args.area.now
 
   starts : c.head_bytes-start.result ≡ head_bytes (head_of area)
-  starts = rw c.before.before.before.head_of_lem.ensures at c.head_bytes-start.ensures
+  starts = rw c.before.before.before.head_of.ensures at c.head_bytes-start.ensures
 
   room : c.head_bytes-start.result ≤ length area
   room = omega (arith, starts, body_length area c.before.before.before.before.before.requires.0)
@@ -69,7 +69,7 @@ judge_body_requires : tie.Need-judge_body-requires
 judge_body_requires c κs =
     let h = c.before in
     let head = h.before.before.before in
-    lent_room (area h) head.head_of_lem.result h.head_bytes-start.result head.head_of_lem.ensures (starts h) head.before.before.requires.0
+    lent_room (area h) head.head_of.result h.head_bytes-start.result head.head_of_lem.ensures (starts h) head.before.before.requires.0
 
 returns_2 : tie.Need-returns
 returns_2 c =
@@ -79,7 +79,7 @@ returns_2 c =
     rw (
       by_body _ start.requires (sym head.is_head.ensures ∙ h.before.if-not-is_head.false),
       ← body_lent (area h) h.head_bytes-start.result (starts h),
-      ← head.before.head_of_lem.ensures,
+      ← head.before.head_of.ensures,
     )
     c.judge_body.ensures
 

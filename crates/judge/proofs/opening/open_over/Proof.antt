@@ -98,8 +98,8 @@ returns_3 c =
     (is_first at)
     (omega (arith, most_is (here at)))
     (one at)
-    c.plain_over_lem.ensures.runs
-    c.plain_over_lem.ensures.none
+    c.plain_over.ensures.runs
+    c.plain_over.ensures.none
 
 pub open_over_spec : {M : Type 1} → statement M
 open_over_spec =

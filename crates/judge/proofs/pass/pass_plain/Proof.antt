@@ -43,14 +43,14 @@ plain_over_requires c κs =
 
 run_over_requires : tie.Need-run_over-run-requires
 run_over_requires c κs =
-    let plain = c.before.plain_over_lem.ensures in
+    let plain = c.before.plain_over.ensures in
     let from = (start c.before.before).requires in
     ((from.0.0, plain.runs.few, plain.runs.run_is, plain.some), plain.indexed _ from.1)
 
 returns_3 : tie.Need-returns
 returns_3 c =
     let run = c.run_over-run.ensures in
-    let plain = c.before.before.plain_over_lem.ensures in
+    let plain = c.before.before.plain_over.ensures in
     let here = c.before.before.before in
     let p = (start here).args.pass in (
       record {

@@ -20,7 +20,7 @@ returns c =
         follow.may_follow-follows.ensures (rw l.head_is l.limit),
         l.head_is,
         s.is_standing-stands.ensures,
-        held.is_held_lem.ensures,
+        held.is_held.ensures,
         final.is_final.ensures,
       ),
     )
