@@ -1,5 +1,5 @@
 -- The middle is from `low` on and before `high`, and its day says which of the two moves there.
-use Prim.Native.Nat.{ℕ, ◌+◌, ◌-◌, ◌/◌, ◌≤◌}
+use Prim.Native.Nat.{◌+◌, ◌-◌, ◌/◌}
 use native.Mathlib.Omega.{arith}
 use Rattle.register.specs.Entries.{entry_at}
 use Rattle.judge.proofs.Halved.{between_all, between_up, between_down, between_met}

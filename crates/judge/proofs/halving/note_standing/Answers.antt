@@ -1,11 +1,7 @@
 -- A place more where an entry stands, and the same places where it does not.
 use mathlib.Core.Path.{◌≡◌}
-use mathlib.Core.Logic.{⊎_elim}
-use Prim.Native.Nat.{◌-◌, ◌≤◌}
 use native.Mathlib.Omega.{arith}
-use borrow.Author.Rules.{rules}
-use lib.ListN.{length, length-set}
-use Rattle.judge.specs.Inner.Halving.{Places}
+use lib.ListN.{length-set}
 use Rattle.judge.proofs.Halved.{places_none, places_stand, places_pass}
 use Rattle.judge.proofs.halving.note_standing.Goals as goal
 use Rattle.judge.proofs.halving.note_standing.Goals.{then-kind-eq-STANDING, else-kind-eq-STANDING}
@@ -31,10 +27,12 @@ loop-k-smaller c = omega arith
 pub loop-k-preserved : goal.loop-k-preserved
 loop-k-preserved c =
     let old = c.loop-k.invariant.2 in
-    elim c.if-kind-eq-STANDING.branch [ then-kind-eq-STANDING w ↦
-      rw (w.places-is, w.n-is) (omega arith, simp length-set c.loop-k.invariant.1, places_stand _ _ _ _ old (omega arith) w.if-kind-eq-STANDING.true)
-    | else-kind-eq-STANDING w ↦
-      rw (w.places-is, w.n-is) (omega arith, c.loop-k.invariant.1, places_pass _ _ _ _ old w.if-kind-eq-STANDING.false) ]
+    elim c.if-kind-eq-STANDING.branch [
+      | then-kind-eq-STANDING w ↦
+          rw (w.places-is, w.n-is) (omega arith, simp length-set c.loop-k.invariant.1, places_stand _ _ _ _ old (omega arith) w.if-kind-eq-STANDING.true)
+      | else-kind-eq-STANDING w ↦
+          rw (w.places-is, w.n-is) (omega arith, c.loop-k.invariant.1, places_pass _ _ _ _ old w.if-kind-eq-STANDING.false)
+    ]
 
 pub returns : goal.returns
 returns c =

@@ -1,18 +1,14 @@
 -- The pass starts with nothing, or with the read that opens the journal and the run of plain ones after it.
 use mathlib.Core.Path.{◌≡◌, sym, ap, ◌∙◌}
 use mathlib.Core.Bool.{Bool, true, false, not, ◌||◌}
-use mathlib.Core.List.{[], ◌∷◌}
+use mathlib.Core.List.{[]}
 use Prim.Native.Nat.{ℕ, ◌+◌}
 use native.Mathlib.Omega.{arith}
 use borrow.Author.Tests.{eqb-true, not-false}
 use lib.Dec.{eqb}
 use Rattle.journal.specs.Journal.{is_flagged}
-use Rattle.judge.specs.Inner.Run.{run_of}
-use Rattle.judge.specs.Inner.Plain.{takes_all}
-use Rattle.judge.specs.Inner.Pass.{First}
 use Rattle.judge.proofs.Passes.{start_zero, starts_none, first_run, first_stands, starts_first}
 use Rattle.journal.proofs.Bools.{neither}
-use borrow.Author.Rules.{rules}
 use Rattle.judge.proofs.opening.open_over.Goals as goal
 
 -- the most entries may follow

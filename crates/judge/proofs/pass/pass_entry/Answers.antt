@@ -2,7 +2,6 @@
 use native.Mathlib.Omega.{arith}
 use Rattle.judge.proofs.Runs.{run_small}
 use Rattle.judge.proofs.Passes.{entry_on, entry_count_lem}
-use borrow.Author.Rules.{rules}
 use Rattle.judge.proofs.pass.pass_entry.Goals as goal
 
 pub pass_with-requires : goal.pass_with-requires

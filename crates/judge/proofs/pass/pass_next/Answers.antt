@@ -1,7 +1,6 @@
 -- Past some plain entries, or past none and then one entry.
 use native.Mathlib.Omega.{arith}
 use Rattle.judge.proofs.Passes.{passes_on, goes_after}
-use borrow.Author.Rules.{rules}
 use Rattle.judge.proofs.pass.pass_next.Goals as goal
 
 pub returns-then-run-from : goal.returns-then-run-from

@@ -1,7 +1,6 @@
 -- What one more entry changes is `pass-more`.
 use mathlib.Core.Path.{refl}
 use Rattle.judge.proofs.Passes.{pass_more, pass_run}
-use borrow.Author.Rules.{rules}
 use Rattle.judge.proofs.pass.pass_with.Goals as goal
 
 pub returns : goal.returns

@@ -1,15 +1,12 @@
 -- Each turn passes one more.
 use mathlib.Core.Path.{◌≡◌, sym, ap, ◌∙◌}
-use Prim.Native.Nat.{ℕ, ◌-◌, ◌≤◌}
+use Prim.Native.Nat.{ℕ}
 use native.Mathlib.Omega.{arith}
 use lib.ListN.{get_or}
-use Rattle.judge.specs.Inner.Index.{bucket_for, Indexed}
 use Rattle.judge.specs.Inner.Run.{ran_to}
-use Rattle.judge.specs.Inner.Plain.{PlainBody, RunsTo}
 use Rattle.judge.proofs.Runs.{run_small, runs_none, runs_one, ran_start, ran_standing, ran_withdrawn}
 use Rattle.judge.proofs.Clashes.{stands_unwithdrawn}
 use Rattle.judge.proofs.Indexes.{indexed_pass, indexed_free, indexed_taken, none_indexed}
-use borrow.Author.Rules.{rules}
 use Rattle.judge.proofs.run.run_over.Goals as goal
 use Rattle.judge.proofs.run.run_over.Goals.{then-is_standing+else-not-is_clear, else-is_standing+else-not-is_withdrawn+then-there-eq0, else-is_standing+else-not-is_withdrawn+else-there-eq0}
 
@@ -47,31 +44,33 @@ loop-k-preserved c =
     let plain = c.is_plain_body.ensures c.if-not-is_plain_body.false in
     let there_is = ap (λ (n : ℕ). get_or c.loop-k.index n 0) (sym at) in
     let some : c.loop-k.standing ≡ 0 → ⊥ = λ z. c.requires.most_in_bounds.3 (omega (arith, inv.0)) in
-    elim c.if-is_standing.branch [ then-is_standing+else-not-is_clear w ↦
-      (let stands = sym c.is_standing.ensures ∙ w.if-is_standing.true in
-      let clear = rw at at (w.is_clear.ensures w.if-not-is_clear.false) in
-      rw (w.index-is, w.day-is, w.newest-is, w.standing-is) (
-        omega (arith, inv.0),
-        omega (arith, inv.1),
-        runs_one inv.2 turn e (ran_standing _ _ from _ _ _ _ plain stands some (none_indexed _ _ _ inv.3 clear)),
-        indexed_pass _ _ _ inv.3 e (stands_unwithdrawn _ stands),
-      ))
-    | else-is_standing+else-not-is_withdrawn+then-there-eq0 w ↦
-      (let gone = sym w.is_withdrawn.ensures ∙ w.if-not-is_withdrawn.false in
-      rw (w.index-is, w.day-is, w.newest-is, w.standing-is) (
-        inv.0,
-        omega (arith, inv.1),
-        runs_one inv.2 turn e (ran_withdrawn _ _ from _ _ _ _ plain gone),
-        rw at (indexed_free _ _ _ inv.3 e (there_is ∙ w.if-there-eq0.true)),
-      ))
-    | else-is_standing+else-not-is_withdrawn+else-there-eq0 w ↦
-      (let gone = sym w.is_withdrawn.ensures ∙ w.if-not-is_withdrawn.false in
-      rw (w.index-is, w.day-is, w.newest-is, w.standing-is) (
-        inv.0,
-        omega (arith, inv.1),
-        runs_one inv.2 turn e (ran_withdrawn _ _ from _ _ _ _ plain gone),
-        rw at (indexed_taken _ _ _ inv.3 e (λ z. w.if-there-eq0.false (sym there_is ∙ z))),
-      )) ]
+    elim c.if-is_standing.branch [
+      | then-is_standing+else-not-is_clear w ↦
+          (let stands = sym c.is_standing.ensures ∙ w.if-is_standing.true in
+          let clear = rw at at (w.is_clear.ensures w.if-not-is_clear.false) in
+          rw (w.index-is, w.day-is, w.newest-is, w.standing-is) (
+            omega (arith, inv.0),
+            omega (arith, inv.1),
+            runs_one inv.2 turn e (ran_standing _ _ from _ _ _ _ plain stands some (none_indexed _ _ _ inv.3 clear)),
+            indexed_pass _ _ _ inv.3 e (stands_unwithdrawn _ stands),
+          ))
+      | else-is_standing+else-not-is_withdrawn+then-there-eq0 w ↦
+          (let gone = sym w.is_withdrawn.ensures ∙ w.if-not-is_withdrawn.false in
+          rw (w.index-is, w.day-is, w.newest-is, w.standing-is) (
+            inv.0,
+            omega (arith, inv.1),
+            runs_one inv.2 turn e (ran_withdrawn _ _ from _ _ _ _ plain gone),
+            rw at (indexed_free _ _ _ inv.3 e (there_is ∙ w.if-there-eq0.true)),
+          ))
+      | else-is_standing+else-not-is_withdrawn+else-there-eq0 w ↦
+          (let gone = sym w.is_withdrawn.ensures ∙ w.if-not-is_withdrawn.false in
+          rw (w.index-is, w.day-is, w.newest-is, w.standing-is) (
+            inv.0,
+            omega (arith, inv.1),
+            runs_one inv.2 turn e (ran_withdrawn _ _ from _ _ _ _ plain gone),
+            rw at (indexed_taken _ _ _ inv.3 e (λ z. w.if-there-eq0.false (sym there_is ∙ z))),
+          ))
+    ]
 
 pub returns : goal.returns
 unfolding ran_to
