@@ -26,13 +26,13 @@ use borrow.Author.Rules.{rules}
 use Rattle.fold.proofs.carry.carry_after.Goals as goal
 
 module _ (area : List ℕ) (t : Summary) (c : Counted area t) where
-  many : is_no_fold (standing (journal_of area).entries) ≡ false → least_to_fold ≤ t.counts-1.standing
+  many : is_no_fold (standing (journal_of area).entries) ≡ false → least_to_fold ≤ t.counts.standing
   unfolding is_no_fold summary_of counts_of
   many can =
       let n : least_to_fold ≤ length (standing (journal_of area).entries) = ltb-false _ _ (neither (ltb (length (standing (journal_of area).entries)) least_to_fold) (any is_final_read (standing (journal_of area).entries)) can).0 in
       rw c.summary n
 
-  counts_fit : (t.head-1.carry-1.folded + t.counts-1.standing ≤ t.day) × (t.head-1.carry-1.flagged + t.counts-1.flagged ≤ t.day)
+  counts_fit : (t.head.carry.folded + t.counts.standing ≤ t.day) × (t.head.carry.flagged + t.counts.flagged ≤ t.day)
   counts_fit =
       let j = journal_of area in
       let s = few_standing area c.sound in
@@ -40,16 +40,16 @@ module _ (area : List ℕ) (t : Summary) (c : Counted area t) where
       (omega (arith, s, day, standing_counted j t c.summary), omega (arith, s, few_flagged area c.sound, day, flagged_counted j t c.summary))
 
   module _ (kept : Recent) (is : kept ≡ recent_of (standing (journal_of area).entries)) where
-    flags_fit : t.counts-1.flagged ≡ flagged_of (drop reads_kept (standing (journal_of area).entries)) + flags_in kept
+    flags_fit : t.counts.flagged ≡ flagged_of (drop reads_kept (standing (journal_of area).entries)) + flags_in kept
     unfolding summary_of counts_of flagged_of
     flags_fit = rw (c.summary, is) (flags_apart (standing (journal_of area).entries))
 
-    carry_is : {flags first : ℕ} → flags ≡ flags_in kept → first ≡ first_in (journal_of area).head-1 (standing (journal_of area).entries) → record { first = first; folded = t.head-1.carry-1.folded + (t.counts-1.standing - reads_kept); flagged = t.head-1.carry-1.flagged + (t.counts-1.flagged - flags) } ≡ carry_after (journal_of area)
+    carry_is : {flags first : ℕ} → flags ≡ flags_in kept → first ≡ first_in (journal_of area).head (standing (journal_of area).entries) → record { first = first; folded = t.head.carry.folded + (t.counts.standing - reads_kept); flagged = t.head.carry.flagged + (t.counts.flagged - flags) } ≡ carry_after (journal_of area)
     unfolding carry_after flagged_in summary_of counts_of
     carry_is {flags} {first} f v =
-        let folded : t.head-1.carry-1.folded + (t.counts-1.standing - reads_kept) ≡ (journal_of area).head-1.carry-1.folded + (length (standing (journal_of area).entries) - reads_kept) = rw c.summary in
-        let more : t.counts-1.flagged - flags ≡ flagged_of (drop reads_kept (standing (journal_of area).entries)) = omega (arith, f, flags_fit) in
-        let before : t.head-1.carry-1.flagged ≡ (journal_of area).head-1.carry-1.flagged = rw c.summary in
+        let folded : t.head.carry.folded + (t.counts.standing - reads_kept) ≡ (journal_of area).head.carry.folded + (length (standing (journal_of area).entries) - reads_kept) = rw c.summary in
+        let more : t.counts.flagged - flags ≡ flagged_of (drop reads_kept (standing (journal_of area).entries)) = omega (arith, f, flags_fit) in
+        let before : t.head.carry.flagged ≡ (journal_of area).head.carry.flagged = rw c.summary in
         cc (v, folded, more, before)
 
 pub overflow_sub-folded : goal.overflow_sub-folded

@@ -31,11 +31,11 @@ total_none head [] none = refl
 total_none head (s ∷ ss) none = absurd (omega arith)
 
 module _ (j : Journal) {t : Summary} (e : t ≡ summary_of j) where
-  counted : t.counts-1.standing ≡ length (standing j.entries)
+  counted : t.counts.standing ≡ length (standing j.entries)
   unfolding summary_of counts_of
-  counted = ap (λ (u : Summary). u.counts-1.standing) e
+  counted = ap (λ (u : Summary). u.counts.standing) e
 
-  from_last : (flags first : ℕ) → flags ≡ flagged_in j.head (standing j.entries) → first ≡ first_in j.head (standing j.entries) → (t.counts-1.standing ≡ 0 → ⊥) → total_of j.head (standing j.entries) ≡ advance_of j.head.dials t.last flags first
+  from_last : (flags first : ℕ) → flags ≡ flagged_in j.head (standing j.entries) → first ≡ first_in j.head (standing j.entries) → (t.counts.standing ≡ 0 → ⊥) → total_of j.head (standing j.entries) ≡ advance_of j.head.dials t.last flags first
   unfolding summary_of
   from_last flags first f v some = rw (e, f, v) (total_last j.head (standing j.entries) (λ z. some (counted ∙ z)))
 
@@ -43,7 +43,7 @@ module _ (j : Journal) {t : Summary} (e : t ≡ summary_of j) where
   unfolding summary_of
   limit_is = ap (λ (u : Summary). u.limit) e
 
-  from_none : t.counts-1.standing ≡ 0 → total_of j.head (standing j.entries) ≡ pos 0
+  from_none : t.counts.standing ≡ 0 → total_of j.head (standing j.entries) ≡ pos 0
   from_none none = total_none j.head (standing j.entries) (sym counted ∙ none)
 
 pub returns-then-counts-eq0 : goal.returns-then-counts-eq0

@@ -11,7 +11,7 @@ use Rattle.meter.proofs.withdraw.withdraw.Statement.{statement}
 use Rattle.meter.proofs.withdraw.withdraw.Tie as tie
 
 -- the register has the area
-here : (c : tie.In-At-2) → let start = c.before.before.before.before.before.args in located start.place start.register-1.now ≡ At c.in-At.start
+here : (c : tie.In-At-2) → let start = c.before.before.before.before.before.args in located start.place start.register.now ≡ At c.in-At.start
 here c = sym c.before.before.locate.ensures.found_is ∙ c.in-At.is
 
 locate_requires : tie.Need-locate-requires
@@ -49,7 +49,7 @@ unfolding place_of refusal_of
 returns c =
     let l = c.before.before.before.before in
     let start = l.before.before.before.args in
-    rw c.refuse.ensures (refuses (Withdraw start.place start.day start.value) start.register-1.now (sym l.locate.ensures.found_is ∙ c.before.before.in-Refused.is))
+    rw c.refuse.ensures (refuses (Withdraw start.place start.day start.value) start.register.now (sym l.locate.ensures.found_is ∙ c.before.before.in-Refused.is))
 
 same_length_2 : tie.Need-shape_of-register-in-At
 same_length_2 c = search rules
@@ -59,7 +59,7 @@ unfolding place_of act
 returns_2 c =
     let e = c.before.before.before.before.before in
     let start = e.before.before.before.before.before.args in
-    writes (Withdraw start.place start.day start.value) start.register-1.now (here e) c.before.before.withdraw_in.ensures
+    writes (Withdraw start.place start.day start.value) start.register.now (here e) c.before.before.withdraw_in.ensures
 
 pub withdraw_spec : {M : Type 1} → statement M
 withdraw_spec =

@@ -64,7 +64,7 @@ module _ (day value : ℕ) (area : List ℕ) where
           summary = accepts.1;
         }
 
-    withdraws : {r0 r1 : Slot} → r0 ≡ slot_at (standing (journal_of area).entries) 0 → r1 ≡ slot_at (standing (journal_of area).entries) 1 → {r : Answer} → r ≡ withdrawn_answer t.head-1.dials r0 r1 → {held : Bool} → held ≡ is_there (held_of (journal_of area).entries) → {newest end : ℕ} → newest ≡ offset_after t.head-1 t.counts-1.newest → end ≡ offset_after t.head-1 t.counts-1.kept → {after : List ℕ} → after ≡ withdrawn_bytes newest end held area → acted (Answered r) after ≡ withdraw_in day value area
+    withdraws : {r0 r1 : Slot} → r0 ≡ slot_at (standing (journal_of area).entries) 0 → r1 ≡ slot_at (standing (journal_of area).entries) 1 → {r : Answer} → r ≡ withdrawn_answer t.head.dials r0 r1 → {held : Bool} → held ≡ is_there (held_of (journal_of area).entries) → {newest end : ℕ} → newest ≡ offset_after t.head t.counts.newest → end ≡ offset_after t.head t.counts.kept → {after : List ℕ} → after ≡ withdrawn_bytes newest end held area → acted (Answered r) after ≡ withdraw_in day value area
     unfolding withdraw_in summary_of counts_of entry_offset journal_of
     withdraws last second r held newest end after = rw (r, last, second, after, held, newest, end, accepts.0, accepts.1)
 

@@ -21,13 +21,13 @@ decreases_loop sheet register₀ out₀ start at₀ end₀ register out at end =
 
 -- a turn is taken where an entry starts and its line fits
 module _ (c : tie.In-loop-at invariant_loop decreases_loop) where
-  both_tests : (ltb c.before.loop-at.at (length c.before.before.before.before.before.before.before.args.sheet.now) ≡ true) × (leb line_most (length c.before.loop-at.out-1 - c.before.loop-at.end) ≡ true)
+  both_tests : (ltb c.before.loop-at.at (length c.before.before.before.before.before.before.before.args.sheet.now) ≡ true) × (leb line_most (length c.before.loop-at.out - c.before.loop-at.end) ≡ true)
   both_tests = both _ _ c.loop-at-test.true
 
   more : c.before.loop-at.at < length c.before.before.before.before.before.before.before.args.sheet.now
   more = ltb-true _ _ both_tests.0
 
-  room : line_most ≤ length c.before.loop-at.out-1 - c.before.loop-at.end
+  room : line_most ≤ length c.before.loop-at.out - c.before.loop-at.end
   room = leb-true _ _ both_tests.1
 
 returns : tie.Need-returns-then-sheet-start invariant_loop decreases_loop

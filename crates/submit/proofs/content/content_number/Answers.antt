@@ -10,13 +10,13 @@ use Rattle.submit.proofs.content.content_number.Goals as goal
 
 -- the limit is 10^n, and the head is the journal's
 
-limit_is : {t : Summary} (j : Journal) → t ≡ summary_of j → t.limit ≡ ten_to j.head-1.dials
+limit_is : {t : Summary} (j : Journal) → t ≡ summary_of j → t.limit ≡ ten_to j.head.dials
 unfolding summary_of
 limit_is j h = ap (λ (t : Summary). t.limit) h
 
-head_is : {t : Summary} (j : Journal) → t ≡ summary_of j → t.head-1 ≡ j.head-1
+head_is : {t : Summary} (j : Journal) → t ≡ summary_of j → t.head ≡ j.head
 unfolding summary_of
-head_is j h = ap (λ (t : Summary). t.head-1) h
+head_is j h = ap (λ (t : Summary). t.head) h
 
 pub returns-then-is_missing : goal.returns-then-is_missing
 unfolding content_rules

@@ -17,9 +17,9 @@ module _ (c : tie.Start) where
   unfolding summary_of
   head_is = ap (λ (t : Summary). t.head) c.requires.summary
 
-  kept_is : c.args.t.counts-1.kept ≡ kept (journal_of c.args.area.now).entries
+  kept_is : c.args.t.counts.kept ≡ kept (journal_of c.args.area.now).entries
   unfolding summary_of counts_of
-  kept_is = ap (λ (t : Summary). t.counts-1.kept) c.requires.summary
+  kept_is = ap (λ (t : Summary). t.counts.kept) c.requires.summary
 
 is_back_dated_requires : tie.Need-is_back_dated-requires
 is_back_dated_requires c κs = search rules
