@@ -30,7 +30,7 @@ loop-k-preserved c =
     let entry = put in
     let inv = entry.loop-k.invariant in
     let more = put.put_next-count.ensures.1 _ _ inv.3 inv.4 in
-    (omega arith, omega (arith, put.put_next-count.ensures.0, inv.1), put.put_next-count.auto.0 ∙ inv.2, rw (one_more, ← entry.entry_after-e.ensures) more.0, rw (one_more, ← entry.entry_after-e.ensures) more.1)
+    (omega arith, omega (arith, put.put_next-count.ensures.0, inv.1), put.put_next-count.auto.left ∙ inv.2, rw (one_more, ← entry.entry_after-e.ensures) more.0, rw (one_more, ← entry.entry_after-e.ensures) more.1)
 
 pub returns : goal.returns
 returns c =
