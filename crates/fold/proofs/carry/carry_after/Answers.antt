@@ -53,18 +53,16 @@ module _ (area : List ℕ) (t : Summary) (c : Counted area t) where
         cc (v, folded, more, before)
 
 pub overflow_sub-folded : goal.overflow_sub-folded
-overflow_sub-folded c = let s = c in omega (arith, many _ _ s.requires.0 s.requires.2)
+overflow_sub-folded c = omega (arith, many _ _ c.requires.0 c.requires.2)
 
 pub overflow_sub-flagged : goal.overflow_sub-flagged
-overflow_sub-flagged c =
-    let s = c in
-    omega (arith, flags_fit s.args.area.now s.args.t s.requires.0 s.args.kept s.requires.1, c.flags_in.ensures)
+overflow_sub-flagged c = omega (arith, flags_fit c.args.area.now c.args.t c.requires.0 c.args.kept c.requires.1, c.flags_in.ensures)
 
 pub overflow_add-result : goal.overflow_add-result
-overflow_add-result c = let s = c in omega (arith, (counts_fit _ _ s.requires.0).0)
+overflow_add-result c = omega (arith, (counts_fit _ _ c.requires.0).0)
 
 pub overflow_add-result-2 : goal.overflow_add-result-2
-overflow_add-result-2 c = let s = c in omega (arith, (counts_fit _ _ s.requires.0).1)
+overflow_add-result-2 c = omega (arith, (counts_fit _ _ c.requires.0).1)
 
 pub returns : goal.returns
-returns c = let s = c in let flags = c.flags_in.ensures in carry_is s.args.area.now s.args.t s.requires.0 s.args.kept s.requires.1 flags (c.first.ensures _ s.requires.0.summary)
+returns c = let flags = c.flags_in.ensures in carry_is c.args.area.now c.args.t c.requires.0 c.args.kept c.requires.1 flags (c.first.ensures _ c.requires.0.summary)

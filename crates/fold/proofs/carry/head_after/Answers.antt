@@ -16,4 +16,4 @@ unfolding head_after summary_of
 head_is area t c e = rw (e, c.summary)
 
 pub returns : goal.returns
-returns c = let s = c in head_is _ _ s.requires.0 c.carry_after-carry.ensures
+returns c = head_is _ _ c.requires.0 c.carry_after-carry.ensures

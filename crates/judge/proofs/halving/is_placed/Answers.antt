@@ -18,8 +18,7 @@ entry_at-requires c =
 
 pub returns : goal.returns
 returns c =
-    let at = c in
-    let found = at.first_from-i.ensures in
-    let some : at.first_from-i.result < at.args.n = omega arith in
-    rw c.entry_at.ensures at c.has_read.ensures
-    ∙ sym (one_placed _ _ _ _ _ _ at.requires.n_value some found.before (found.from some))
+    let found = c.first_from-i.ensures in
+    let some : c.first_from-i.result < c.args.n = omega arith in
+    rw c.entry_at.ensures c c.has_read.ensures
+    ∙ sym (one_placed _ _ _ _ _ _ c.requires.n_value some found.before (found.from some))
