@@ -11,7 +11,6 @@ pub note_standing-n-requires : goal.note_standing-n-requires
 note_standing-n-requires c = record { m_in_bounds = c.requires.m_in_bounds; m_in_bounds_2 = omega arith }
 
 -- each place noted is of an entry of the body
-
 pub marks_over-marks-requires : goal.marks_over-marks-requires
 marks_over-marks-requires c = λ i h. omega (arith, c.note_standing-n.ensures.below i h, c.requires.m_in_bounds)
 
