@@ -8,11 +8,11 @@ use Rattle.judge.proofs.Halved.{apart_on, apart_ends}
 use Rattle.judge.proofs.halving.are_apart.Goals as goal
 
 pub note_standing-n-requires : goal.note_standing-n-requires
-note_standing-n-requires c = record { m_in_bounds = c.requires.m_in_bounds; m_in_bounds_2 = omega arith }
+note_standing-n-requires c = record { body_room = c.requires.body_room; places_room = omega arith }
 
 -- each place noted is of an entry of the body
 pub marks_over-marks-requires : goal.marks_over-marks-requires
-marks_over-marks-requires c = λ i h. omega (arith, c.note_standing-n.ensures.below i h, c.requires.m_in_bounds)
+marks_over-marks-requires c = λ i h. omega (arith, c.note_standing-n.ensures.below i h, c.requires.body_room)
 
 pub loop-k-init : goal.loop-k-init
 unfolding are_apart every those entries_to
@@ -20,17 +20,17 @@ loop-k-init c = (omega arith, refl)
 
 pub entry_at-requires : goal.entry_at-requires
 entry_at-requires c =
-    let room = c.requires.m_in_bounds in
+    let room = c.requires.body_room in
     omega arith
 
 pub stands_again-requires : goal.stands_again-requires
 stands_again-requires c =
     let places = c.note_standing-n.ensures in
     record {
-      inside = λ i h. omega (arith, places.below i h, c.requires.m_in_bounds);
-      n_value = rw places.same c.requires.body_value;
-      last_value = rw places.same c.requires.last_value;
-      marks_value = c.marks_over-marks.ensures;
+      inside = λ i h. omega (arith, places.below i h, c.requires.body_room);
+      rising = rw places.same c.requires.rising;
+      last_day = rw places.same c.requires.last_day;
+      marks_are = c.marks_over-marks.ensures;
     }
 
 pub returns-then-stands_again : goal.returns-then-stands_again
@@ -47,7 +47,7 @@ loop-k-smaller c = omega arith
 pub loop-k-preserved : goal.loop-k-preserved
 loop-k-preserved c =
     let places = c.note_standing-n.ensures in
-    (omega arith, apart_on _ _ _ c.entry_at.ensures (rw places.same c c.stands_again.ensures) c.if-stands_again.false c.loop-k.invariant.1)
+    (omega arith, apart_on _ _ _ c.entry_at.ensures (rw places.same at c.stands_again.ensures) c.if-stands_again.false c.loop-k.invariant.1)
 
 pub returns : goal.returns
 returns c =

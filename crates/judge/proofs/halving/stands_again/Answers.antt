@@ -13,12 +13,12 @@ returns-then-not-is_withdrawn c =
 
 pub returns-then-last-e : goal.returns-then-last-e
 returns-then-last-e c =
-    rw (none_stands _ _ _ c.requires.n_value (rw c.requires.last_value at c.if-last-e.true)) (sym (and-false (is_withdrawn c.args.e)))
+    rw (none_stands _ _ _ c.requires.rising (rw c.requires.last_day at c.if-last-e.true)) (sym (and-false (is_withdrawn c.args.e)))
 
 pub returns-then-not-is_marked : goal.returns-then-not-is_marked
 returns-then-not-is_marked c =
     let none = c.if-not-is_marked.true in
-    rw (none_valued _ _ _ (rw c.requires.marks_value at (sym c.is_marked.ensures ∙ none))) (sym (and-false (is_withdrawn c.args.e)))
+    rw (none_valued _ _ _ (rw c.requires.marks_are at (sym c.is_marked.ensures ∙ none))) (sym (and-false (is_withdrawn c.args.e)))
 
 pub returns : goal.returns
 returns c = rw (← c.is_withdrawn.ensures, c.if-not-is_withdrawn.false) c.is_placed.ensures

@@ -25,9 +25,9 @@ returns c =
     (let low : e.indicator + 256 * e.flag ≡ 0 = eqb-true _ _ h in
     record {
       stands = sym c.is_standing.ensures ∙ c.if-not-is_standing.false;
-      c = c.if-e-eq0.false;
-      c = c.if-limit-e.false;
-      c = sym c.is_opening.ensures ∙ c.if-not-is_opening.false;
+      dated = c.if-e-eq0.false;
+      small = c.if-limit-e.false;
+      opening = sym c.is_opening.ensures ∙ c.if-not-is_opening.false;
       indicator = omega arith;
       flag = omega arith;
     })

@@ -20,9 +20,9 @@ returns c =
     λ h.
     (let low : e.indicator + 256 * e.flag ≤ 2 = leb-true _ _ h in
     record {
-      c = c.if-e-last.false;
-      c = c.if-limits-e.false;
-      c = c.is_plain_letter.ensures (c.if-not-is_plain_letter.false);
+      later = c.if-e-last.false;
+      small = c.if-limits-e.false;
+      letter = c.is_plain_letter.ensures (c.if-not-is_plain_letter.false);
       indicator = omega arith;
       flag = omega arith;
     })
