@@ -17,7 +17,6 @@ use Rattle.judge.specs.declared.area.Summary.{Summary}
 use Rattle.journal.specs.Journal.{Journal, standing}
 use Rattle.journal.specs.Total.{flagged_in, first_in, total_of}
 use Rattle.judge.specs.Inner.Judged.{counts_of, value_of, summary_of}
-use borrow.Author.Rules.{rules}
 use Rattle.meter.proofs.report.total_in.Goals as goal
 
 total_last : (head : Head) (ss : List Entry) → (length ss ≡ 0 → ⊥) → total_of head ss ≡ advance_of head.dials (value_of (slot_at ss 0)) (flagged_in head ss) (first_in head ss)
@@ -51,5 +50,4 @@ returns-then-counts-eq0 c = λ j e f. sym (from_none j e c.if-counts-eq0.true)
 
 pub returns : goal.returns
 returns c = λ j e f.
-    let first = c in
-    to_z-of_z w64 _ (sfits_of c.total.type_inv) ∙ c.total.ensures _ (limit_is j e) ∙ sym (from_last j e _ _ f (first.first.ensures j e) first.if-counts-eq0.false)
+    to_z-of_z w64 _ (sfits_of c.total.type_inv) ∙ c.total.ensures _ (limit_is j e) ∙ sym (from_last j e _ _ f (c.first.ensures j e) c.if-counts-eq0.false)

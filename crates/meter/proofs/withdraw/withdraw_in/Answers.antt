@@ -24,7 +24,6 @@ use Rattle.meter.specs.declared.withdraw.Decided.TheVariants.{Refused, Taken}
 use Rattle.meter.specs.Inner.Withdrawal.{withdraw_decided}
 use Rattle.meter.proofs.Judged.{accepted_sound}
 use Rattle.meter.proofs.Held.{held_counted}
-use borrow.Author.Rules.{rules}
 use Rattle.meter.proofs.withdraw.withdraw_in.Goals as goal
 
 -- by whether the checks accept
@@ -70,29 +69,21 @@ module _ (day value : ℕ) (area : List ℕ) where
 
 pub returns-in-Refused : goal.returns-in-Refused
 returns-in-Refused c =
-    let d = c in
-    stays _ _ _ (sym d.decide_withdrawal.ensures.decision_is ∙ c.in-Refused.is) c.refuse.ensures
+    stays _ _ _ (sym c.decide_withdrawal.ensures.decision_is ∙ c.in-Refused.is) c.refuse.ensures
 
 pub returns-in-Taken : goal.returns-in-Taken
 returns-in-Taken c =
-    let m = c in
-    let answer = m in
-    let end = answer in
-    let second = end in
-    let last = second in
-    let taken = last in
-    let d = taken in
-    let decision = sym d.decide_withdrawal.ensures.decision_is ∙ taken.in-Taken.is in
-    let is = counted _ _ _ decision d.requires in
+    let decision = sym c.decide_withdrawal.ensures.decision_is ∙ c.in-Taken.is in
+    let is = counted _ _ _ decision c.requires in
     withdraws
     _
     _
     _
     decision
-    (last.last-r0.ensures is)
-    (second.second-r1.ensures is)
-    answer.withdrawn_answer-answer.ensures
+    (c.last-r0.ensures is)
+    (c.second-r1.ensures is)
+    c.withdrawn_answer-answer.ensures
     (held_counted _ is)
-    end.offset_after-newest.ensures
-    end.offset_after-end.ensures
-    m.mark_withdrawn.ensures
+    c.offset_after-newest.ensures
+    c.offset_after-end.ensures
+    c.mark_withdrawn.ensures
