@@ -25,9 +25,7 @@ module _ (plate : Head) (area : List ℕ) {head : Head} (is : head ≡ plate) {n
   enrols h r after = rw (← is, r, after, ← check, h)
 
 pub returns-then-number-ne-ACCEPTED : goal.returns-then-number-ne-ACCEPTED
-returns-then-number-ne-ACCEPTED c =
-    stays _ _ c.plate-head.ensures c.check_enrolment-number.ensures c.if-number-ne-ACCEPTED.true c.refuse.ensures
+returns-then-number-ne-ACCEPTED c = stays _ _ c.plate-head.ensures c.check_enrolment-number.ensures c.if-number-ne-ACCEPTED.true c.refuse.ensures
 
 pub returns : goal.returns
-returns c =
-    enrols _ _ c.plate-head.ensures c.check_enrolment-number.ensures c.if-number-ne-ACCEPTED.false c.accept.ensures c.put_head.ensures
+returns c = enrols _ _ c.plate-head.ensures c.check_enrolment-number.ensures c.if-number-ne-ACCEPTED.false c.accept.ensures c.put_head.ensures

@@ -12,13 +12,11 @@ use Rattle.meter.proofs.part.length_in.Goals as goal
 
 pub returns-in-Zero : goal.returns-in-Zero
 unfolding length_in report_checks
-returns-in-Zero c =
-    rw (zero_number (λ j. []) _ c.requires (sym c.judge_area-judgement.ensures.0.found_is ∙ c.in-Zero.is))
+returns-in-Zero c = rw (zero_number (λ j. []) _ c.requires (sym c.judge_area-judgement.ensures.0.found_is ∙ c.in-Zero.is))
 
 pub returns-in-Damaged : goal.returns-in-Damaged
 unfolding length_in report_checks
-returns-in-Damaged c =
-    rw (damaged_number (λ j. []) _ c.requires (sym c.judge_area-judgement.ensures.0.found_is ∙ c.in-Damaged.is))
+returns-in-Damaged c = rw (damaged_number (λ j. []) _ c.requires (sym c.judge_area-judgement.ensures.0.found_is ∙ c.in-Damaged.is))
 
 pub returns-in-Sound : goal.returns-in-Sound
 unfolding length_in report_checks summary_of journal_of entry_offset

@@ -31,8 +31,7 @@ report_of-requires c =
 
 pub returns-in-Zero : goal.returns-in-Zero
 unfolding report_in report_checks
-returns-in-Zero c =
-    rw (c.refuse_report.ensures, zero_number (λ j. []) _ c.requires (sym c.judge_area-judgement.ensures.0.found_is ∙ c.in-Zero.is))
+returns-in-Zero c = rw (c.refuse_report.ensures, zero_number (λ j. []) _ c.requires (sym c.judge_area-judgement.ensures.0.found_is ∙ c.in-Zero.is))
 
 pub returns-in-Damaged : goal.returns-in-Damaged
 unfolding report_in report_checks

@@ -8,8 +8,7 @@ use Rattle.meter.proofs.search.search_in.Goals as goal
 
 pub returns-in-Zero : goal.returns-in-Zero
 unfolding search_in report_checks
-returns-in-Zero c =
-    rw (c.refuse_search.ensures, zero_number (λ j. []) _ c.requires (sym c.judge_area-judgement.ensures.0.found_is ∙ c.in-Zero.is))
+returns-in-Zero c = rw (c.refuse_search.ensures, zero_number (λ j. []) _ c.requires (sym c.judge_area-judgement.ensures.0.found_is ∙ c.in-Zero.is))
 
 pub returns-in-Damaged : goal.returns-in-Damaged
 unfolding search_in report_checks

@@ -68,8 +68,7 @@ module _ (day value : ℕ) (area : List ℕ) where
     withdraws last second r held newest end after = rw (r, last, second, after, held, newest, end, accepts.0, accepts.1)
 
 pub returns-in-Refused : goal.returns-in-Refused
-returns-in-Refused c =
-    stays _ _ _ (sym c.decide_withdrawal.ensures.decision_is ∙ c.in-Refused.is) c.refuse.ensures
+returns-in-Refused c = stays _ _ _ (sym c.decide_withdrawal.ensures.decision_is ∙ c.in-Refused.is) c.refuse.ensures
 
 pub returns-in-Taken : goal.returns-in-Taken
 returns-in-Taken c =

@@ -1,6 +1,8 @@
 -- What the turns of a piece put, and then the text of the rest, is the text from its start on; a turn is taken only where its line fits.
+use Prim.Native.Nat.{◌<◌}
 use native.Mathlib.Omega.{arith}
 use borrow.Author.Tests.{ltb-true, leb-true}
+use lib.ListN.{length}
 use Rattle.calls.proofs.Bools.{both}
 use Rattle.playing.proofs.Pieces.{Going, set_out, gone_on, stopped, none_left, too_long}
 use Rattle.playing.proofs.piece.play_from.Goals as goal
@@ -27,7 +29,9 @@ play_next-p-requires c =
     }
 
 pub loop-at-smaller : goal.loop-at-smaller
-loop-at-smaller c = omega (arith, c.play_next-p.ensures.on, ltb-true _ _ (both _ _ c.loop-at-test.true).0)
+loop-at-smaller c =
+    let more : c.loop-at.at < length c.args.sheet.now = ltb-true _ _ (both _ _ c.loop-at-test.true).0 in
+    omega (arith, c.play_next-p.ensures.on)
 
 pub loop-at-preserved : goal.loop-at-preserved
 loop-at-preserved c =
