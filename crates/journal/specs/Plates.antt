@@ -1,5 +1,5 @@
 -- 02, 5, Three-dial meters: examples that fix which plates a meter may have.
-use Rattle.std.specs.Prelude.{◌≡◌, Bool, true, false, List, [], ◌∷◌, ℕ}
+use Rattle.std.specs.Prelude.{◌≡◌, true, false, List, [], ◌∷◌, ℕ}
 use Rattle.register.specs.Head.{head_of}
 use Rattle.journal.specs.Sound.{is_plate, is_head, holds}
 

@@ -4,7 +4,6 @@ use Rattle.std.specs.Prelude.{◌≡◌, true, false, List, [], ◌∷◌, ◌++
 use Rattle.terms.specs.declared.entry.Entry.{Entry}
 use Rattle.terms.specs.declared.profile.Profile.{Profile}
 use Rattle.terms.specs.declared.profile.Profile.TheVariants.{Ordinary, Pseudo}
-use Rattle.register.specs.declared.head.Carry.{Carry}
 use Rattle.register.specs.declared.head.Head.{Head}
 use Rattle.register.specs.Area.{area_bytes, areas_in, register_bytes, area_of, with_area, all_zero}
 use Rattle.register.specs.Bytes.{byte_at, word_at, long_at, put_word, put_long}

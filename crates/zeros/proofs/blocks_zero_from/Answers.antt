@@ -1,9 +1,7 @@
 -- What is passed is zero where the lanes are; with the last block it is all there is.
-use mathlib.Core.Path.{◌≡◌, refl}
-use Prim.Native.Nat.{◌+◌, ◌-◌, ◌≤◌}
+use mathlib.Core.Path.{refl}
 use native.Mathlib.Omega.{arith}
-use Rattle.zeros.specs.Inner.Zeros.{Clear}
-use Rattle.zeros.proofs.Blocks.{or_parts, or_none, from_zero, Passed, passed_none, passed_more, passed_all}
+use Rattle.zeros.proofs.Blocks.{or_parts, or_none, from_zero, passed_none, passed_more, passed_all}
 use Rattle.zeros.proofs.blocks_zero_from.Goals as goal
 
 pub block_at-lanes-requires : goal.block_at-lanes-requires
@@ -27,7 +25,7 @@ pub loop-i-preserved : goal.loop-i-preserved
 loop-i-preserved c =
     let adds = c.block_at-lanes-in-loop-i.ensures in
     let inv = c.loop-i.invariant in
-    (omega (arith, inv.0), passed_more inv.0 inv.1 adds adds.passed adds.kept)
+    (omega (arith, inv.0), passed_more inv.0 inv.1 adds.before adds.passed adds.kept)
 
 pub returns : goal.returns
 returns c =

@@ -1,9 +1,7 @@
 -- What is passed is zero where the lanes are; with the last block it is all there is.
-use mathlib.Core.Path.{◌≡◌, refl}
-use Prim.Native.Nat.{◌+◌, ◌-◌, ◌≤◌}
-use native.Mathlib.Omega.{arith}
+use Prim.Native.Nat.{◌-◌, ◌≤◌}
 use Rattle.zeros.specs.Inner.Zeros.{Clear}
-use Rattle.zeros.proofs.Blocks.{or_parts, or_none, from_zero, Passed, passed_none, passed_more, passed_all}
+use Rattle.zeros.proofs.Blocks.{Passed}
 use Rattle.zeros.proofs.blocks_zero_from.Given as goal
 
 abbrev pub invariant-loop-i : goal.invariant-loop-i

@@ -1,8 +1,6 @@
 -- What is passed is zero where the bits are; with the last eight bytes it is all there is.
-use mathlib.Core.Path.{◌≡◌}
-use Prim.Native.Nat.{◌+◌, ◌-◌, ◌≤◌}
 use native.Mathlib.Omega.{arith}
-use Rattle.zeros.proofs.Blocks.{or_parts, or_none, from_zero, Passed, passed_none, passed_more, passed_all}
+use Rattle.zeros.proofs.Blocks.{or_parts, or_none, from_zero, passed_none, passed_more, passed_all}
 use Rattle.zeros.proofs.eights_zero_from.Goals as goal
 
 pub eight_at-bits-requires : goal.eight_at-bits-requires

@@ -1,8 +1,7 @@
 -- What is passed is zero where the bits are; with the last eight bytes it is all there is.
 use mathlib.Core.Path.{◌≡◌}
-use Prim.Native.Nat.{◌+◌, ◌-◌, ◌≤◌}
-use native.Mathlib.Omega.{arith}
-use Rattle.zeros.proofs.Blocks.{or_parts, or_none, from_zero, Passed, passed_none, passed_more, passed_all}
+use Prim.Native.Nat.{◌-◌, ◌≤◌}
+use Rattle.zeros.proofs.Blocks.{Passed}
 use Rattle.zeros.proofs.eights_zero_from.Given as goal
 
 abbrev pub invariant-loop-i : goal.invariant-loop-i

@@ -1,6 +1,5 @@
 -- The first four bytes reach the last four, and those the end.
 use native.Mathlib.Omega.{arith}
-use borrow.Author.Rules.{rules}
 use Rattle.zeros.proofs.Blocks.{both_ends}
 use Rattle.zeros.proofs.fours_zero_from.Goals as goal
 

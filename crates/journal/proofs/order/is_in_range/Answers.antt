@@ -1,7 +1,6 @@
 -- Each test that fails decides the definition, and what is left is its last three tests.
-use borrow.Author.Tests.{eq-eqb, ne_eqb, le-ltb, lt-ltb, not-true, not-false}
+use borrow.Author.Tests.{eq-eqb, ne_eqb, le-ltb, lt-ltb}
 use Rattle.journal.specs.Sound.{holds, is_in_range}
-use borrow.Author.Rules.{rules}
 use Rattle.journal.proofs.order.is_in_range.Goals as goal
 
 pub returns-then-e-eq0 : goal.returns-then-e-eq0

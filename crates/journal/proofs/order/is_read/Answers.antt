@@ -1,8 +1,5 @@
 -- The kind is one of three, and the body is as it should be.
-use mathlib.Core.Bool.{◌||◌}
-use borrow.Author.Tests.{not-true, not-false}
 use Rattle.journal.specs.Sound.{is_read}
-use borrow.Author.Rules.{rules}
 use Rattle.journal.proofs.order.is_read.Goals as goal
 
 pub returns-then-not-is_standing-is_withdrawn : goal.returns-then-not-is_standing-is_withdrawn
@@ -13,8 +10,8 @@ returns-then-not-is_standing-is_withdrawn c =
     rw (
       ← k.is_standing.ensures,
       ← k.is_withdrawn.ensures,
-      ← k.is_held_lem.ensures,
-      not-true (k.is_standing.result || (k.is_withdrawn.result || k.is_held_lem.result)) c.if-not-is_standing-is_withdrawn.true,
+      ← k.is_held.ensures,
+      c.if-not-is_standing-is_withdrawn.true,
     )
 
 pub returns : goal.returns
@@ -25,7 +22,7 @@ returns c =
     rw (
       ← k.is_standing.ensures,
       ← k.is_withdrawn.ensures,
-      ← k.is_held_lem.ensures,
-      not-false (k.is_standing.result || (k.is_withdrawn.result || k.is_held_lem.result)) c.if-not-is_standing-is_withdrawn.false,
+      ← k.is_held.ensures,
+      c.if-not-is_standing-is_withdrawn.false,
       c.is_in_range.ensures l,
     )

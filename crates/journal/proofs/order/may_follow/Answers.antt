@@ -1,8 +1,6 @@
 -- Each test is the definition's.
 use mathlib.Core.Bool.{and-false}
-use borrow.Author.Tests.{not-true, not-false}
 use Rattle.journal.specs.Inner.Loops.{follows_by}
-use borrow.Author.Rules.{rules}
 use Rattle.journal.proofs.order.may_follow.Goals as goal
 
 pub returns-then-held : goal.returns-then-held
@@ -26,7 +24,7 @@ returns-then-is_standing c =
       ← s.is_standing.ensures,
       c.if-is_standing.true,
       s.is_final.ensures,
-      c.may_stand_lem.ensures,
+      c.may_stand.ensures,
     )
 
 pub returns : goal.returns
@@ -43,6 +41,6 @@ returns c =
       ← s.is_standing.ensures,
       held.if-is_standing.false,
       s.is_final.ensures,
-      held.is_held_lem.ensures,
+      held.is_held.ensures,
       c.is_holdable.ensures,
     )

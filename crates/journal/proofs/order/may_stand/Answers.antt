@@ -1,7 +1,6 @@
 -- Whether a read stands decides which tests are made, as in the definition.
 use Rattle.journal.specs.Sound.{opens}
 use Rattle.journal.specs.Inner.Loops.{stands_by}
-use borrow.Author.Rules.{rules}
 use Rattle.journal.proofs.order.may_stand.Goals as goal
 
 pub returns-then-stands : goal.returns-then-stands

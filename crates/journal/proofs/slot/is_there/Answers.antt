@@ -1,6 +1,5 @@
 -- The match on the slot is the definition's.
 use Rattle.journal.specs.Journal.{is_there}
-use borrow.Author.Rules.{rules}
 use Rattle.journal.proofs.slot.is_there.Goals as goal
 
 pub returns-in-Read : goal.returns-in-Read

@@ -1,6 +1,5 @@
 -- A head is no longer than an area, and a byte's worth of entries after it is short.
 use native.Mathlib.Omega.{arith}
-use borrow.Author.Rules.{rules}
 use Rattle.register.specs.Head.{offset_after}
 use Rattle.register.proofs.Body.{head_small}
 use Rattle.register.proofs.head.offset_after.Goals as goal

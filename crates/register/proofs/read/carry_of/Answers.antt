@@ -2,7 +2,6 @@
 use borrow.Author.Tests.{eq-eqb, ne_eqb}
 use Rattle.terms.specs.Entry.{kind_carry}
 use Rattle.register.specs.Head.{is_carry_at, carry_at}
-use borrow.Author.Rules.{rules}
 use Rattle.register.proofs.read.carry_of.Goals as goal
 
 pub returns-then-byte_at-ne-CARRY : goal.returns-then-byte_at-ne-CARRY

@@ -2,7 +2,6 @@
 use mathlib.Core.Path.{◌∙◌}
 use native.Mathlib.Omega.{arith}
 use Rattle.register.proofs.Parts.{rest_entry, none_entry}
-use borrow.Author.Rules.{rules}
 use Rattle.register.proofs.read.cut_entry.Goals as goal
 
 pub returns-then-bytes-at : goal.returns-then-bytes-at

@@ -1,6 +1,5 @@
 -- Each field at its byte.
 use Rattle.register.specs.Entries.{entry_at}
-use borrow.Author.Rules.{rules}
 use Rattle.register.proofs.read.entry_of.Goals as goal
 
 pub returns : goal.returns

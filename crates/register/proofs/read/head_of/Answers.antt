@@ -1,6 +1,5 @@
 -- Each field is read where the definition has it.
 use Rattle.register.specs.Head.{is_carry_at, head_of}
-use borrow.Author.Rules.{rules}
 use Rattle.register.proofs.read.head_of.Goals as goal
 
 pub returns : goal.returns

@@ -1,6 +1,5 @@
 -- Four bytes, as the definition has them.
 use Rattle.register.specs.Bytes.{long_at}
-use borrow.Author.Rules.{rules}
 use Rattle.register.proofs.read.long_at.Goals as goal
 
 pub returns : goal.returns

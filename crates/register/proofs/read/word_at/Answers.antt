@@ -1,6 +1,5 @@
 -- Two bytes, as the definition has them.
 use Rattle.register.specs.Bytes.{word_at}
-use borrow.Author.Rules.{rules}
 use Rattle.register.proofs.read.word_at.Goals as goal
 
 pub returns : goal.returns

@@ -1,7 +1,6 @@
 -- A store past the end is no store, and `set` there changes nothing.
 use mathlib.Core.Path.{sym}
 use lib.Seq.{set_out}
-use borrow.Author.Rules.{rules}
 use Rattle.register.proofs.write.put_byte.Goals as goal
 
 pub returns-else-i-bytes : goal.returns-else-i-bytes

@@ -3,7 +3,6 @@ use mathlib.Core.Path.{ap, ◌∙◌}
 use mathlib.Core.List.{List}
 use Prim.Native.Nat.{ℕ}
 use Rattle.register.specs.Head.{meter_bytes, put_meter, put_carry, put_head}
-use borrow.Author.Rules.{rules}
 use Rattle.register.proofs.write.put_head.Goals as goal
 
 pub returns-then-head : goal.returns-then-head

@@ -1,6 +1,5 @@
 -- The stores are the definition's, in its order.
 use Rattle.register.specs.Head.{put_meter}
-use borrow.Author.Rules.{rules}
 use Rattle.register.proofs.write.put_meter.Goals as goal
 
 pub returns : goal.returns

@@ -8,7 +8,6 @@ use lib.ListN.{length, set, length-set}
 use Rattle.terms.specs.declared.entry.Entry.{Entry}
 use Rattle.register.specs.Bytes.{put_word, put_long}
 use Rattle.register.specs.Entries.{entry_bytes, put_entry}
-use borrow.Author.Rules.{rules}
 use Rattle.register.proofs.write.put_within.Goals as goal
 
 inside : (l : List ℕ) (at k : ℕ) → k < entry_bytes → at + entry_bytes ≤ length l → at + k < length l

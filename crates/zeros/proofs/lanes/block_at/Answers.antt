@@ -1,6 +1,5 @@
 -- One half after the other.
 use Rattle.zeros.proofs.Blocks.{adds_adds}
-use borrow.Author.Rules.{rules}
 use Rattle.zeros.proofs.lanes.block_at.Goals as goal
 
 pub returns : goal.returns

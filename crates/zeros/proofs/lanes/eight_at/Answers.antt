@@ -1,5 +1,4 @@
 -- Two numbers of four bytes each, so the sum fits.
-use borrow.Author.Rules.{rules}
 use Rattle.zeros.proofs.Blocks.{eight_zero}
 use Rattle.zeros.proofs.lanes.eight_at.Goals as goal
 

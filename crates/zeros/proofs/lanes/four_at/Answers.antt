@@ -1,5 +1,4 @@
 -- Two numbers of two bytes each, so the sum fits.
-use borrow.Author.Rules.{rules}
 use Rattle.zeros.proofs.Blocks.{four_zero}
 use Rattle.zeros.proofs.lanes.four_at.Goals as goal
 

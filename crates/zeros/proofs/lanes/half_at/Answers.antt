@@ -1,6 +1,5 @@
 -- Eight times eight bytes side by side, in the two lanes by turns.
 use Rattle.zeros.proofs.Blocks.{block_zero, block_adds}
-use borrow.Author.Rules.{rules}
 use Rattle.zeros.proofs.lanes.half_at.Goals as goal
 
 pub returns : goal.returns

@@ -1,7 +1,6 @@
 -- Each byte is below 256, so the sum is below 65,536.
 use Prim.Native.Nat.{◌+◌}
 use native.Mathlib.Omega.{arith}
-use borrow.Author.Rules.{rules}
 use Rattle.zeros.proofs.Blocks.{two_zero}
 use Rattle.zeros.proofs.lanes.two_at.Goals as goal
 
