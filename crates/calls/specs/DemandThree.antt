@@ -1,5 +1,5 @@
 -- 00, demand 3, as 01, The two runs of demand 3, words it: ONE CLAIM about a whole list.
-use Rattle.std.specs.Prelude.{◌≡◌, true, false, List, [], ◌∷◌, ℕ, ◌<◌, ◌^◌, ℤ, pos, ◌+ℤ◌, ◌*ℤ◌}
+use Rattle.std.specs.Prelude.{◌≡◌, true, false, List, [], ◌∷◌, ℕ, ◌<◌, ◌^◌, pos, ◌+ℤ◌, ◌*ℤ◌}
 use Rattle.terms.specs.declared.entry.Entry.{Entry}
 use Rattle.register.specs.Area.{areas_in, area_of}
 use Rattle.journal.specs.Journal.{journal_of, standing}

@@ -7,7 +7,6 @@ use Rattle.terms.specs.Entry.{recent_of, kind_standing, indicator_not_set, indic
 use Rattle.terms.specs.Letter.{letter_i, letter_o, letter_c, letter_x, letter_y}
 use Rattle.rules.specs.declared.detection.Detected.{Detected}
 use Rattle.rules.specs.declared.detection.Detected.TheVariants.{NotRollover, Rollover, Indeterminate}
-use Rattle.rules.specs.declared.indicator.Indicated.{Indicated}
 use Rattle.rules.specs.Settings.{step_back, high_mark, low_mark, least_percent, most_percent, fraction, whole_percent, low_percent, high_percent}
 use Rattle.rules.specs.Detection.{is_near_turn, detected}
 use Rattle.rules.specs.Indicator.{indicated, indicated_number, indicated_flag}

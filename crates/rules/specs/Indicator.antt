@@ -1,5 +1,5 @@
 -- 01, Detection, "Indicator (001)": what the submitted indicator makes of the detection.
-use Rattle.std.specs.Prelude.{true, false, cond, ℕ, eqb}
+use Rattle.std.specs.Prelude.{cond, ℕ, eqb}
 use Rattle.terms.specs.Entry.{indicator_not_set, indicator_false, indicator_true}
 use Rattle.terms.specs.Number.{accepted, read_ee, read_ef}
 use Rattle.rules.specs.declared.detection.Detected.{Detected}

@@ -1,12 +1,8 @@
 -- Every example computes to what it says, those of any register from its length.
-use mathlib.Core.Path.{◌≡◌, refl}
-use mathlib.Core.List.{List}
-use Prim.Native.Nat.{ℕ}
-use lib.ListN.{length}
+use mathlib.Core.Path.{refl}
 use Rattle.arithmetic.specs.Powers.{ten_to}
 use Rattle.terms.specs.Entry.{is_standing, is_withdrawn, is_held, those}
 use Rattle.terms.specs.Letter.{is_known, is_opening, is_final, is_holdable}
-use Rattle.terms.specs.Number.{accepted, misfit, no_meter}
 use Rattle.terms.specs.Profile.{meter_kind, profile_of, takes}
 use Rattle.register.specs.Area.{areas_in, area_of, all_zero}
 use Rattle.register.specs.Bytes.{word_at, long_at}

@@ -1,7 +1,6 @@
 -- The match on the last read is the definition's.
 use mathlib.Core.Path.{sym, ap, ◌∙◌}
 use Rattle.rules.specs.Detection.{is_not_rollover}
-use borrow.Author.Rules.{rules}
 use Rattle.rules.proofs.detection.is_not_rollover.Goals as goal
 
 pub returns-in-Read : goal.returns-in-Read

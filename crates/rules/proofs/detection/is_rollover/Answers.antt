@@ -1,6 +1,5 @@
 -- The matches on the three last reads are the definition's, and so are the five tests.
 use Rattle.rules.specs.Detection.{is_rollover}
-use borrow.Author.Rules.{rules}
 use Rattle.rules.proofs.detection.is_rollover.Goals as goal
 
 pub returns-in_default : goal.returns-in_default

@@ -2,7 +2,6 @@
 use native.Mathlib.Omega.{arith}
 use Rattle.rules.specs.Detection.{is_small_step}
 use Rattle.rules.proofs.Laws.{advance_word, negated_fits, negated_reads}
-use borrow.Author.Rules.{rules}
 use Rattle.rules.proofs.detection.is_small_step.Goals as goal
 
 pub overflow_sub-result : goal.overflow_sub-result

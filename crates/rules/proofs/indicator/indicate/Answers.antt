@@ -1,7 +1,6 @@
 -- Each arm's tests are the definition's, in its order.
 use borrow.Author.Tests.{ne_eqb}
 use Rattle.rules.specs.Indicator.{indicated}
-use borrow.Author.Rules.{rules}
 use Rattle.rules.proofs.indicator.indicate.Goals as goal
 
 pub returns-then-indicator-eq-FALSE : goal.returns-then-indicator-eq-FALSE

@@ -3,7 +3,6 @@ use mathlib.Core.Path.{sym, ap, ◌∙◌}
 use native.Mathlib.Omega.{arith}
 use Rattle.rules.specs.Volume.{advance_over}
 use Rattle.rules.proofs.Laws.{advance_word}
-use borrow.Author.Rules.{rules}
 use Rattle.rules.proofs.volume.advance_over.Goals as goal
 
 pub returns-in-Read : goal.returns-in-Read

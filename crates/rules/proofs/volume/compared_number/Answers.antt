@@ -1,6 +1,5 @@
 -- Each arm is a case of the definition.
 use Rattle.rules.specs.Volume.{compared_number}
-use borrow.Author.Rules.{rules}
 use Rattle.rules.proofs.volume.compared_number.Goals as goal
 
 pub returns-in-Low : goal.returns-in-Low

@@ -1,6 +1,5 @@
 -- The year of the day's date, and its length.
 use mathlib.Core.Path.{ap, ◌∙◌}
-use borrow.Author.Rules.{rules}
 use Rattle.calendar.specs.Year.{year_length}
 use Rattle.rules.specs.Volume.{days_in_year}
 use Rattle.rules.proofs.volume.days_in_year.Goals as goal

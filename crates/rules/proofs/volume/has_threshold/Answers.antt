@@ -1,6 +1,5 @@
 -- The code is the definition, test for test.
 use Rattle.rules.specs.Volume.{has_threshold}
-use borrow.Author.Rules.{rules}
 use Rattle.rules.proofs.volume.has_threshold.Goals as goal
 
 pub returns : goal.returns

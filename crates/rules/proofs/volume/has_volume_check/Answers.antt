@@ -1,6 +1,5 @@
 -- The code is the definition, test for test.
 use Rattle.rules.specs.Volume.{has_volume_check}
-use borrow.Author.Rules.{rules}
 use Rattle.rules.proofs.volume.has_volume_check.Goals as goal
 
 pub returns : goal.returns

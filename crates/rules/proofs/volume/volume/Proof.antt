@@ -13,16 +13,16 @@ use Rattle.rules.proofs.volume.volume.Tie as tie
 
 module _ (c : tie.After-advance-a) where
   abbrev start : tie.Start
-  start = c.before.before.before.before
+  start = c.before.before
 
-  current : AdvanceWord c.advance-a.result (advance_of start.args.n start.args.s.value start.args.flag c.before.before.in-Read.r0.value)
+  current : AdvanceWord c.advance-a.result (advance_of start.args.n start.args.s.value start.args.flag c.before.in-Read.r0.value)
   current = advance_word _ _ _ _ c.advance-a.ensures (omega arith) (omega arith) (omega arith)
 
 -- what the tests see
 found : (c : tie.After-compare) → let a = (start c.before).args in c.compare.result ≡ compared_in a.n a.s a.flag a.recent
 found c =
     let b = c.before in
-    rw c.compare.ensures (threshold_over _ _ _ (start b).args.recent b.before.before.in-Read.is (current b).reads)
+    rw c.compare.ensures (threshold_over _ _ _ (start b).args.recent b.before.in-Read.is (current b).reads)
 
 threshold : (c : tie.After-compared_number-number) → let a = (start c.before.before).args in c.compared_number-number.result ≡ compared_number (compared_in a.n a.s a.flag a.recent)
 threshold c = c.compared_number-number.ensures ∙ ap compared_number (found c.before)
@@ -31,7 +31,7 @@ over : (c : tie.After-is_within_capacity) → let a = (start c.before.before.bef
 over c =
     let b = c.before.before.before.before.before in
     ap₂ ◌&&◌ c.before.has_volume_check.ensures (ap not c.is_within_capacity.ensures)
-    ∙ capacity_over _ _ _ (start b).args.recent b.before.before.in-Read.is (current b).reads _
+    ∙ capacity_over _ _ _ (start b).args.recent b.before.in-Read.is (current b).reads _
 
 enum_known_last : tie.Need-enum_known-last
 enum_known_last c = search rules
@@ -40,7 +40,7 @@ enum_told : tie.Need-enum_told-1
 enum_told c = search rules
 
 returns : tie.Need-returns-in_default
-returns c = sym (none_stands _ _ _ c.before.before.args.recent _ c.in_default.is)
+returns c = sym (none_stands _ _ _ c.args.recent _ c.in_default.is)
 
 advance_requires : tie.Need-advance-a-requires
 advance_requires c κs = search rules
