@@ -33,7 +33,7 @@ module _ (c : tie.After-put_byte) where
   abbrev start : tie.Start
   start = c.before.before.before.before.before
 
-  minus : Put start.args.out.now start.args.at (45 ∷ []) c.put_byte.new.0 (start.args.at + 1)
+  minus : Put start.args.out.now start.args.at (45 ∷ []) c.put_byte.new.bytes (start.args.at + 1)
   minus = put_one _ c.put_byte.ensures
 
   room : Room start.args.at (45 ∷ decimal c.before.before.before.magnitude-size.result)

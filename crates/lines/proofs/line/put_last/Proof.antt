@@ -11,7 +11,7 @@ use Rattle.lines.proofs.line.put_last.Statement.{statement}
 use Rattle.lines.proofs.line.put_last.Tie as tie
 
 -- a signed argument comes to the callee as its bits, read again
-number : (c : tie.After-put_signed-end) → Put c.before.before.before.args.out.now c.before.before.before.args.at (signed c.before.before.before.args.n) c.put_signed-end.new.0 c.put_signed-end.result
+number : (c : tie.After-put_signed-end) → Put c.before.before.before.args.out.now c.before.before.before.args.at (signed c.before.before.before.args.n) c.put_signed-end.new.out c.put_signed-end.result
 number c = rw (to_z-of_z w64 c.before.before.before.args.n c.before.before.before.ranges.n) at c.put_signed-end.ensures
 
 put_signed_requires : tie.Need-put_signed-end-requires
