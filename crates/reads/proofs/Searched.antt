@@ -11,7 +11,6 @@ use lib.ListN.{length}
 use Rattle.terms.specs.declared.entry.Entry.{Entry}
 use Rattle.terms.specs.declared.entry.Slot.TheVariants.{Empty}
 use Rattle.terms.specs.Entry.{is_standing, those, slot_at}
-use Rattle.register.specs.Bytes.{word_at}
 use Rattle.register.specs.Entries.{entry_start, entry_at}
 use Rattle.journal.specs.Journal.{entries_to, standing, slot_if, on_day, day_of}
 use Rattle.journal.specs.Sound.{any, days_rise, is_later}

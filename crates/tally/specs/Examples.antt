@@ -5,8 +5,8 @@ use Rattle.terms.specs.declared.profile.Profile.TheVariants.{Ordinary, Pseudo}
 use Rattle.terms.specs.Answer.{answer, refusal, reported, refused_report}
 use Rattle.terms.specs.Number.{accepted, no_meter, damaged, back_dated, low, high, not_last, enrolled, no_fold}
 use Rattle.calls.specs.declared.call.Call.{Call}
-use Rattle.calls.specs.declared.call.Call.TheVariants.{Enrol, Submit, Withdraw, Report as ReportCall, Fold, Trial}
-use Rattle.calls.specs.declared.call.Reply.TheVariants.{Answered, Reported}
+use Rattle.calls.specs.declared.call.Call.TheVariants.{Enrol, Submit, Withdraw, Trial}
+use Rattle.calls.specs.declared.call.Reply.TheVariants.{Answered}
 use Rattle.calls.specs.Play.{Exchange, exchange}
 use Rattle.calls.specs.Examples.{meter, read, submitted, withdrew, asked, fold_answered}
 use Rattle.calls.specs.TrialExamples.{tried}

@@ -1,5 +1,4 @@
 -- The two tests are those of the number, in its order.
-use borrow.Author.Rules.{rules}
 use borrow.Author.Tests.{ne_eqb, eq-eqb, le-leb, lt-leb}
 use Rattle.register.specs.Area.{areas_in}
 use Rattle.calls.specs.Calls.{is_misfit, is_no_place, place_number}

@@ -12,7 +12,7 @@ pub are_apart-requires : goal.are_apart-requires
 are_apart-requires c =
     let start = c in
     let is = start.requires.1 in
-    (start.requires.0, (run_day _ (pass_run _ _ _ is.same), days_rise_lem start.args.head _ is.ordered))
+    record { m_in_bounds = start.requires.0; last_value = run_day _ (pass_run _ _ _ is.same); body_value = days_rise_lem start.args.head _ is.ordered }
 
 pub returns : goal.returns
 returns c = c.are_apart.ensures

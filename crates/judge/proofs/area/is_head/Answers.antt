@@ -1,6 +1,5 @@
 -- The kind of the first byte, and the plate.
 use Rattle.journal.specs.Sound.{is_head}
-use borrow.Author.Rules.{rules}
 use Rattle.judge.proofs.area.is_head.Goals as goal
 
 pub returns : goal.returns

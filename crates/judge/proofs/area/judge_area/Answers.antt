@@ -13,7 +13,6 @@ use Rattle.judge.specs.declared.area.Judgement.{Judgement}
 use Rattle.judge.specs.Inner.Judged.{judged, Judges, Answers}
 use Rattle.judge.proofs.Numbers.{judges}
 use Rattle.judge.proofs.Verdicts.{damaged_answers, zero_answers}
-use borrow.Author.Rules.{rules}
 use Rattle.judge.proofs.area.judge_area.Goals as goal
 
 first_not_zero : (area : List ℕ) → (get_or area 0 0 ≡ 0 → ⊥) → all_zero area ≡ false

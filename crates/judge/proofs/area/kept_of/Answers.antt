@@ -1,6 +1,5 @@
 -- A held entry is counted, so that one can be taken off.
 use native.Mathlib.Omega.{arith}
-use borrow.Author.Rules.{rules}
 use Rattle.judge.proofs.area.kept_of.Goals as goal
 
 pub overflow_sub-result : goal.overflow_sub-result

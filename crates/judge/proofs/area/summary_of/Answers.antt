@@ -1,6 +1,5 @@
 -- Each part is that of the entries passed.
 use Rattle.judge.proofs.Newest.{summary_is}
-use borrow.Author.Rules.{rules}
 use Rattle.judge.proofs.area.summary_of.Goals as goal
 
 pub returns : goal.returns

@@ -1,6 +1,5 @@
 -- With a carry, it is the test by the day of the oldest read that was kept.
 use Rattle.journal.specs.Sound.{carries_right}
-use borrow.Author.Rules.{rules}
 use Rattle.judge.proofs.carry.carries_right.Goals as goal
 
 pub returns-then-not-head : goal.returns-then-not-head

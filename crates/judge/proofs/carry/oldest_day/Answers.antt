@@ -1,11 +1,8 @@
 -- None of the entries passed stands; the first that does is the oldest of all.
 use mathlib.Core.Path.{◌≡◌, refl}
-use mathlib.Core.List.{[]}
-use Prim.Native.Nat.{◌-◌, ◌≤◌}
 use native.Mathlib.Omega.{arith}
-use borrow.Author.Rules.{rules}
 use Rattle.terms.specs.Entry.{those}
-use Rattle.journal.specs.Journal.{entries_to, standing, oldest_of, day_of}
+use Rattle.journal.specs.Journal.{entries_to, oldest_of, day_of}
 use Rattle.judge.proofs.Carries.{none_yet, oldest_is}
 use Rattle.judge.proofs.carry.oldest_day.Goals as goal
 

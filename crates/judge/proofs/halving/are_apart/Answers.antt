@@ -1,19 +1,16 @@
 -- The withdrawn ones of the entries passed are apart from all standing ones.
 use mathlib.Core.Path.{◌≡◌, refl, sym}
-use mathlib.Core.Bool.{true}
-use Prim.Native.Nat.{◌-◌, ◌≤◌}
 use native.Mathlib.Omega.{arith}
 use Rattle.terms.specs.Entry.{those}
-use Rattle.journal.specs.Journal.{entries_to, standing, withdrawn}
+use Rattle.journal.specs.Journal.{entries_to}
 use Rattle.journal.specs.Sound.{are_apart, every}
 use Rattle.judge.proofs.Halved.{apart_on, apart_ends}
 use Rattle.judge.proofs.halving.are_apart.Goals as goal
 
 pub note_standing-n-requires : goal.note_standing-n-requires
-note_standing-n-requires c = (c.requires.m_in_bounds, omega arith)
+note_standing-n-requires c = record { m_in_bounds = c.requires.m_in_bounds; m_in_bounds_2 = omega arith }
 
 -- each place noted is of an entry of the body
-
 pub marks_over-marks-requires : goal.marks_over-marks-requires
 marks_over-marks-requires c =
     let noted = c in
@@ -34,7 +31,12 @@ stands_again-requires c =
     let noted = marked in
     let start = noted in
     let places = noted.note_standing-n.ensures in
-    ((λ i h. omega (arith, places.below i h, start.requires.m_in_bounds)), (rw places.same start.requires.body_value, (rw places.same start.requires.last_value, marked.marks_over-marks.ensures)))
+    record {
+      inside = λ i h. omega (arith, places.below i h, start.requires.m_in_bounds);
+      n_value = rw places.same start.requires.body_value;
+      last_value = rw places.same start.requires.last_value;
+      marks_value = marked.marks_over-marks.ensures;
+    }
 
 pub returns-then-stands_again : goal.returns-then-stands_again
 returns-then-stands_again c =

@@ -1,12 +1,9 @@
 -- The withdrawn ones of the entries passed are apart from all standing ones.
-use mathlib.Core.Path.{◌≡◌, refl, sym}
+use mathlib.Core.Path.{◌≡◌}
 use mathlib.Core.Bool.{true}
 use Prim.Native.Nat.{◌-◌, ◌≤◌}
-use native.Mathlib.Omega.{arith}
-use Rattle.terms.specs.Entry.{those}
 use Rattle.journal.specs.Journal.{entries_to, standing, withdrawn}
-use Rattle.journal.specs.Sound.{are_apart, every}
-use Rattle.judge.proofs.Halved.{apart_on, apart_ends}
+use Rattle.journal.specs.Sound.{are_apart}
 use Rattle.judge.proofs.halving.are_apart.Given as goal
 
 abbrev pub invariant-loop-k : goal.invariant-loop-k

@@ -2,7 +2,6 @@
 use mathlib.Core.Path.{◌≡◌, sym, ◌∙◌}
 use Prim.Native.Nat.{◌<◌}
 use native.Mathlib.Omega.{arith}
-use borrow.Author.Rules.{rules}
 use Rattle.judge.proofs.Halved.{none_placed, one_placed}
 use Rattle.judge.proofs.halving.is_placed.Goals as goal
 
@@ -10,7 +9,7 @@ pub returns-then-i-n : goal.returns-then-i-n
 returns-then-i-n c =
     let found = c.first_from-i.ensures in
     let e : c.first_from-i.result ≡ c.args.n = c.if-i-n.true in
-    sym (none_placed _ _ _ _ _ c.requires.n_value (rw e at found))
+    sym (none_placed _ _ _ _ _ c.requires.n_value (rw e at found.before))
 
 pub entry_at-requires : goal.entry_at-requires
 entry_at-requires c =
@@ -23,4 +22,4 @@ returns c =
     let found = at.first_from-i.ensures in
     let some : at.first_from-i.result < at.args.n = omega arith in
     rw c.entry_at.ensures at c.has_read.ensures
-    ∙ sym (one_placed _ _ _ _ _ _ at.requires.n_value some found (found.from some))
+    ∙ sym (one_placed _ _ _ _ _ _ at.requires.n_value some found.before (found.from some))

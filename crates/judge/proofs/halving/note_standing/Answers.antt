@@ -1,13 +1,10 @@
 -- A place more where an entry stands, and the same places where it does not.
 use mathlib.Core.Path.{◌≡◌}
-use mathlib.Core.Logic.{⊎_elim}
-use Prim.Native.Nat.{◌-◌, ◌≤◌}
 use native.Mathlib.Omega.{arith}
-use borrow.Author.Rules.{rules}
-use lib.ListN.{length, length-set}
-use Rattle.judge.specs.Inner.Halving.{Places}
+use lib.ListN.{length-set}
 use Rattle.judge.proofs.Halved.{places_none, places_stand, places_pass}
 use Rattle.judge.proofs.halving.note_standing.Goals as goal
+use Rattle.judge.proofs.halving.note_standing.Goals.{then-kind-eq-STANDING, else-kind-eq-STANDING}
 
 pub loop-k-init : goal.loop-k-init
 loop-k-init c = (omega arith, c.requires.m_in_bounds_2, places_none _ _)
@@ -29,9 +26,13 @@ loop-k-smaller c = omega arith
 
 pub loop-k-preserved : goal.loop-k-preserved
 loop-k-preserved c =
-    let room = c.loop-k.invariant.1 in
     let old = c.loop-k.invariant.2 in
-    (omega arith, ⊎_elim (λ w. rw w.1 (simp length-set room)) (λ w. rw w.1 room) c.if-kind-eq-STANDING.branch, ⊎_elim (λ w. rw (w.1, w.2) (places_stand _ _ _ _ old (omega arith) w.0.taken)) (λ w. rw (w.1, w.2) (places_pass _ _ _ _ old w.0.left)) c.if-kind-eq-STANDING.branch)
+    elim c.if-kind-eq-STANDING.branch [
+      | then-kind-eq-STANDING w ↦
+          rw (w.places-is, w.n-is) (omega arith, simp length-set c.loop-k.invariant.1, places_stand _ _ _ _ old (omega arith) w.if-kind-eq-STANDING.true)
+      | else-kind-eq-STANDING w ↦
+          rw (w.places-is, w.n-is) (omega arith, c.loop-k.invariant.1, places_pass _ _ _ _ old w.if-kind-eq-STANDING.false)
+    ]
 
 pub returns : goal.returns
 returns c =

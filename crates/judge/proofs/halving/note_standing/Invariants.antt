@@ -1,12 +1,7 @@
 -- A place more where an entry stands, and the same places where it does not.
-use mathlib.Core.Path.{◌≡◌}
-use mathlib.Core.Logic.{⊎_elim}
 use Prim.Native.Nat.{◌-◌, ◌≤◌}
-use native.Mathlib.Omega.{arith}
-use borrow.Author.Rules.{rules}
-use lib.ListN.{length, length-set}
+use lib.ListN.{length}
 use Rattle.judge.specs.Inner.Halving.{Places}
-use Rattle.judge.proofs.Halved.{places_none, places_stand, places_pass}
 use Rattle.judge.proofs.halving.note_standing.Given as goal
 
 abbrev pub invariant-loop-k : goal.invariant-loop-k

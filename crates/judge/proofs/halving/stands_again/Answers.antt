@@ -1,8 +1,6 @@
 -- Where nothing is looked up, nothing could be found.
 use mathlib.Core.Path.{sym, ◌∙◌}
 use mathlib.Core.Bool.{and-false}
-use borrow.Author.Rules.{rules}
-use borrow.Author.Tests.{not-true, not-false}
 use Rattle.terms.specs.Entry.{is_withdrawn}
 use Rattle.judge.proofs.Clashes.{none_stands}
 use Rattle.judge.proofs.Halved.{none_valued}

@@ -1,6 +1,5 @@
 use mathlib.Core.Path.{refl}
 use Rattle.judge.specs.Inner.Index.{bucket_of}
-use borrow.Author.Rules.{rules}
 use Rattle.judge.proofs.index.bucket_of.Goals as goal
 
 pub returns : goal.returns

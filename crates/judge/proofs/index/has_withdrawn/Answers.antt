@@ -3,7 +3,6 @@ use mathlib.Core.Path.{sym, ap}
 use Prim.Native.Nat.{ℕ}
 use lib.ListN.{get_or}
 use Rattle.judge.proofs.Indexes.{none_indexed, empty_clear, one_indexed}
-use borrow.Author.Rules.{rules}
 use Rattle.judge.proofs.index.has_withdrawn.Goals as goal
 
 pub returns-then-there-eq0 : goal.returns-then-there-eq0

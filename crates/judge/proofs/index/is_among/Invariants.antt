@@ -1,12 +1,8 @@
 -- The flag is the definition's over the entries passed, the newest first.
-use mathlib.Core.Path.{◌≡◌, refl}
+use mathlib.Core.Path.{◌≡◌}
 use Prim.Native.Nat.{◌-◌, ◌≤◌}
-use native.Mathlib.Omega.{arith}
-use borrow.Author.Rules.{rules}
-use Rattle.terms.specs.Entry.{is_withdrawn, those}
 use Rattle.journal.specs.Journal.{entries_to, withdrawn}
 use Rattle.journal.specs.Sound.{any, has_read}
-use Rattle.journal.proofs.Entries.{those_more, any_kept}
 use Rattle.judge.proofs.index.is_among.Given as goal
 
 abbrev pub invariant-loop-k : goal.invariant-loop-k

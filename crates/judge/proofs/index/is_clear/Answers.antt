@@ -5,7 +5,6 @@ use native.Mathlib.Omega.{arith}
 use borrow.Author.Tests.{not-true}
 use Rattle.journal.proofs.Bools.{false_is}
 use Rattle.judge.proofs.Indexes.{empty_clear}
-use borrow.Author.Rules.{rules}
 use Rattle.judge.proofs.index.is_clear.Goals as goal
 
 pub returns-then-there-eq0 : goal.returns-then-there-eq0

@@ -1,7 +1,6 @@
 -- A bucket that is free takes the entry, and any other is crowded.
 use borrow.Author.Tests.{eq-eqb, ne_eqb}
 use Rattle.judge.specs.Inner.Index.{put_in}
-use borrow.Author.Rules.{rules}
 use Rattle.judge.proofs.index.put.Goals as goal
 
 pub returns-then-index-at-eq0 : goal.returns-then-index-at-eq0

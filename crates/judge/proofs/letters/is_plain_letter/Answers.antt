@@ -2,7 +2,6 @@
 use mathlib.Core.Path.{sym, ◌∙◌}
 use Rattle.journal.proofs.Bools.{false_is}
 use Rattle.judge.proofs.Bits.{plain_letter}
-use borrow.Author.Rules.{rules}
 use Rattle.judge.proofs.letters.is_plain_letter.Goals as goal
 
 pub returns-then-letter-lt64 : goal.returns-then-letter-lt64

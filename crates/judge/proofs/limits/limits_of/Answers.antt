@@ -2,7 +2,6 @@
 use mathlib.Core.Path.{refl}
 use native.Mathlib.Omega.{arith}
 use Rattle.arithmetic.proofs.Laws.{ten_at_most}
-use borrow.Author.Rules.{rules}
 use Rattle.judge.proofs.limits.limits_of.Goals as goal
 
 pub overflow_cast-limit : goal.overflow_cast-limit

@@ -1,5 +1,4 @@
 -- Each arm's answer is its profile's.
-use borrow.Author.Rules.{rules}
 use Rattle.judge.specs.Inner.Plain.{takes_all}
 use Rattle.judge.proofs.limits.takes_all.Goals as goal
 

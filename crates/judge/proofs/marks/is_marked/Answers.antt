@@ -1,4 +1,3 @@
-use borrow.Author.Rules.{rules}
 use Rattle.judge.proofs.marks.is_marked.Goals as goal
 
 pub returns : goal.returns

@@ -1,7 +1,6 @@
 -- The shift is a power of two, which fits.
 use Rattle.judge.specs.Inner.Marks.{mark_on}
 use Rattle.judge.proofs.Bits.{bit_shifted}
-use borrow.Author.Rules.{rules}
 use Rattle.judge.proofs.marks.mark.Goals as goal
 
 pub returns : goal.returns

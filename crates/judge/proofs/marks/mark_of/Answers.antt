@@ -1,7 +1,6 @@
 -- The shift is a quotient.
 use mathlib.Core.Path.{refl}
 use Rattle.judge.specs.Inner.Marks.{mark_of}
-use borrow.Author.Rules.{rules}
 use Rattle.judge.proofs.marks.mark_of.Goals as goal
 
 pub returns : goal.returns

@@ -2,9 +2,8 @@
 use mathlib.Core.Path.{◌≡◌, sym, ◌∙◌}
 use Prim.Native.Nat.{◌+◌, ◌*◌}
 use native.Mathlib.Omega.{arith}
-use borrow.Author.Tests.{eqb-true, not-false}
+use borrow.Author.Tests.{eqb-true}
 use Rattle.journal.proofs.Bools.{false_is}
-use borrow.Author.Rules.{rules}
 use Rattle.judge.proofs.opening.is_first.Goals as goal
 
 pub returns-then-not-is_standing : goal.returns-then-not-is_standing

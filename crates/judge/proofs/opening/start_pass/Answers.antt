@@ -2,7 +2,6 @@ use Rattle.terms.specs.Entry.{those, slot_at}
 use Rattle.journal.specs.Journal.{held_of, is_there, first_value}
 use Rattle.journal.specs.Sound.{every, any, days_rise, opens_right, has_one_final, is_held_right, are_in_order}
 use Rattle.judge.specs.Inner.Pass.{pass_of}
-use borrow.Author.Rules.{rules}
 use Rattle.judge.proofs.opening.start_pass.Goals as goal
 
 pub returns : goal.returns

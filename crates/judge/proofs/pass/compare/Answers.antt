@@ -1,10 +1,9 @@
 -- A withdrawn entry is put into the index, and is clear if it is later than all that stand; a standing one is as its bucket says.
 use mathlib.Core.Path.{sym, ◌∙◌}
-use borrow.Author.Tests.{ltb-true, not-true, not-false}
+use borrow.Author.Tests.{ltb-true}
 use Rattle.judge.proofs.Clashes.{stands_unwithdrawn, free_standing, free_withdrawn, free_other}
 use Rattle.judge.proofs.Indexes.{indexed_pass, indexed_put, none_indexed}
 use Rattle.judge.proofs.Runs.{run_day}
-use borrow.Author.Rules.{rules}
 use Rattle.judge.proofs.pass.compare.Goals as goal
 
 pub returns-then-is_withdrawn : goal.returns-then-is_withdrawn

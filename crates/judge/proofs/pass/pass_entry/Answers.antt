@@ -2,13 +2,12 @@
 use native.Mathlib.Omega.{arith}
 use Rattle.judge.proofs.Runs.{run_small}
 use Rattle.judge.proofs.Passes.{entry_on, entry_count_lem}
-use borrow.Author.Rules.{rules}
 use Rattle.judge.proofs.pass.pass_entry.Goals as goal
 
 pub pass_with-requires : goal.pass_with-requires
 pass_with-requires c =
     let start = c in
-    let small = run_small start.args.pass.run-1 _ _ start.requires.most_in_bounds.2 in
+    let small = run_small start.args.pass.run _ _ start.requires.most_in_bounds.2 in
     (omega (arith, start.requires.most_in_bounds.1), small.1, small.2)
 
 pub returns : goal.returns

@@ -1,7 +1,6 @@
 -- Past some plain entries, or past none and then one entry.
 use native.Mathlib.Omega.{arith}
 use Rattle.judge.proofs.Passes.{passes_on, goes_after}
-use borrow.Author.Rules.{rules}
 use Rattle.judge.proofs.pass.pass_next.Goals as goal
 
 pub returns-then-run-from : goal.returns-then-run-from
@@ -13,7 +12,7 @@ pub pass_entry-requires : goal.pass_entry-requires
 pass_entry-requires c =
     let plain = c.pass_plain-ran.ensures in
     let start = c in
-    ((start.requires.most_in_bounds.0, omega (arith, start.requires.most_in_bounds.1, c.if-run-from.false), plain.0.run_is), plain.1)
+    record { most_in_bounds = (start.requires.most_in_bounds.0, omega (arith, start.requires.most_in_bounds.1, c.if-run-from.false), plain.0.run_is); indexed = plain.1 }
 
 pub returns : goal.returns
 returns c =

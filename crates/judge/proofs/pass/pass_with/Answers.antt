@@ -1,7 +1,6 @@
 -- What one more entry changes is `pass-more`.
 use mathlib.Core.Path.{refl}
 use Rattle.judge.proofs.Passes.{pass_more, pass_run}
-use borrow.Author.Rules.{rules}
 use Rattle.judge.proofs.pass.pass_with.Goals as goal
 
 pub returns : goal.returns
@@ -20,7 +19,7 @@ returns c =
         follow.may_follow-follows.ensures (rw l.head_is l.limit),
         l.head_is,
         s.is_standing-stands.ensures,
-        held.is_held_lem.ensures,
+        held.is_held.ensures,
         final.is_final.ensures,
       ),
     )

@@ -2,7 +2,6 @@
 use native.Mathlib.Omega.{arith}
 use borrow.Author.Tests.{eqb-true}
 use Rattle.journal.proofs.Entries.{count_ends, count_all}
-use borrow.Author.Rules.{rules}
 use Rattle.judge.proofs.passed.is_end.Goals as goal
 
 pub returns-then-at-most : goal.returns-then-at-most

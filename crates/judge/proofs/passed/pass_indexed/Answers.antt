@@ -4,20 +4,19 @@ use native.Mathlib.Omega.{arith}
 use borrow.Author.Tests.{not-true, not-false}
 use Rattle.journal.proofs.Bools.{false_is}
 use Rattle.judge.proofs.Passes.{passed_few}
-use borrow.Author.Rules.{rules}
 use Rattle.judge.proofs.passed.pass_indexed.Goals as goal
 
 pub returns-then-not-pass : goal.returns-then-not-pass
 returns-then-not-pass c =
     let rest = c.pass_rest-pass.ensures in
-    record { passed = rest.0; withdrawn_is = λ h. false_is (sym (c.if-not-pass.true) ∙ h) }
+    record { passed = rest.0; withdrawn_is = λ h. false_is (sym (not-true _ c.if-not-pass.true) ∙ h) }
 
 pub has_withdrawn-withdrawn-requires : goal.has_withdrawn-withdrawn-requires
 has_withdrawn-withdrawn-requires c =
     let some = c in
     let rest = some in
     let start = rest in
-    let order = some.if-not-pass.false in
+    let order = not-false _ some.if-not-pass.false in
     let few = passed_few start.requires.1 rest.pass_rest-pass.ensures.0 order in
     (omega (arith, few.0, start.requires.0), few.1, rest.pass_rest-pass.ensures.1 order)
 

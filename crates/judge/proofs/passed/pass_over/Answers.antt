@@ -2,7 +2,6 @@
 use mathlib.Core.Path.{refl, sym}
 use Rattle.judge.proofs.Runs.{none_withdrawn}
 use Rattle.judge.proofs.Passes.{all_passed}
-use borrow.Author.Rules.{rules}
 use Rattle.judge.proofs.passed.pass_over.Goals as goal
 
 pub returns-then-is_end : goal.returns-then-is_end

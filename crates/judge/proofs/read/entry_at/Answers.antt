@@ -1,6 +1,5 @@
 -- The entry ends within the body, and each field is read where the definition has it.
 use Rattle.register.specs.Entries.{entry_at}
-use borrow.Author.Rules.{rules}
 use Rattle.judge.proofs.read.entry_at.Goals as goal
 
 pub returns : goal.returns

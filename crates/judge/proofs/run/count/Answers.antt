@@ -1,7 +1,6 @@
 -- A standing entry, and one that changes only the count.
 use mathlib.Core.Path.{sym, ◌∙◌}
 use Rattle.judge.proofs.Runs.{run_more}
-use borrow.Author.Rules.{rules}
 use Rattle.judge.proofs.run.count.Goals as goal
 
 pub returns-then-is_standing : goal.returns-then-is_standing

@@ -1,6 +1,5 @@
 use borrow.Author.Tests.{eq-eqb, ne_eqb}
 use Rattle.journal.specs.Journal.{is_flagged}
-use borrow.Author.Rules.{rules}
 use Rattle.judge.proofs.run.flagged_with.Goals as goal
 
 pub returns-then-e-eq1 : goal.returns-then-e-eq1

@@ -1,7 +1,5 @@
 use mathlib.Core.Path.{sym, ◌∙◌}
-use borrow.Author.Tests.{not-false}
 use Rattle.journal.proofs.Bools.{false_is}
-use borrow.Author.Rules.{rules}
 use Rattle.judge.proofs.run.is_plain.Goals as goal
 
 pub returns-then-not-is_standing : goal.returns-then-not-is_standing

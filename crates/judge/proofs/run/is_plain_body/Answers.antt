@@ -1,9 +1,8 @@
 -- Each test gives one part of what a plain body is.
 use Prim.Native.Nat.{◌+◌, ◌*◌, ◌≤◌}
 use native.Mathlib.Omega.{arith}
-use borrow.Author.Tests.{leb-true, not-false}
+use borrow.Author.Tests.{leb-true}
 use Rattle.journal.proofs.Bools.{false_is}
-use borrow.Author.Rules.{rules}
 use Rattle.judge.proofs.run.is_plain_body.Goals as goal
 
 pub returns-then-e-last : goal.returns-then-e-last

@@ -1,16 +1,11 @@
 -- The run to a count and a day is that over the entries passed, which all stand; each turn passes one more.
 use mathlib.Core.Path.{◌≡◌, ◌∙◌}
-use mathlib.Core.List.{[]}
-use Prim.Native.Nat.{◌+◌, ◌-◌, ◌≤◌}
+use Prim.Native.Nat.{◌+◌, ◌-◌}
 use native.Mathlib.Omega.{arith}
-use borrow.Author.Tests.{not-false}
-use Rattle.journal.specs.Journal.{entries_to, withdrawn}
 use Rattle.judge.specs.Inner.Run.{ran_to}
-use Rattle.judge.specs.Inner.Plain.{RunsTo}
 use Rattle.judge.proofs.Runs.{runs_none, runs_one, all_run, plain_start, ran_standing, none_withdrawn, withdrawn_still}
 use Rattle.judge.proofs.Clashes.{stands_unwithdrawn}
 use Rattle.judge.proofs.Indexes.{indexed_unwithdrawn}
-use borrow.Author.Rules.{rules}
 use Rattle.judge.proofs.run.plain_over.Goals as goal
 
 pub returns-then-from : goal.returns-then-from

@@ -1,7 +1,6 @@
 -- What one more entry changes is `run_more`.
 use mathlib.Core.Path.{refl}
 use Rattle.judge.proofs.Runs.{run_more}
-use borrow.Author.Rules.{rules}
 use Rattle.judge.proofs.run.stand.Goals as goal
 
 pub returns : goal.returns

@@ -7,16 +7,16 @@ use Rattle.judge.specs.declared.area.Summary.{Summary}
 use Rattle.judge.specs.Inner.Judged.{counts_of, summary_of}
 use Rattle.reads.proofs.first.first.Goals as goal
 
-by_summary : (j : Journal) (t : Summary) → t ≡ summary_of j → cond t.head-1.carried t.head-1.carry-1.first t.counts-1.first ≡ first_in j.head-1 (standing j.entries)
+by_summary : (j : Journal) (t : Summary) → t ≡ summary_of j → cond t.head.carried t.head.carry.first t.counts.first ≡ first_in j.head (standing j.entries)
 unfolding first_in summary_of counts_of
 by_summary j t e = rw e
 
 pub returns-then-head : goal.returns-then-head
 returns-then-head c = λ j e.
     let t = c.args.t in
-    sym (ap (λ (b : Bool). cond b t.head-1.carry-1.first t.counts-1.first) c.if-head.true) ∙ by_summary j t e
+    sym (ap (λ (b : Bool). cond b t.head.carry.first t.counts.first) c.if-head.true) ∙ by_summary j t e
 
 pub returns : goal.returns
 returns c = λ j e.
     let t = c.args.t in
-    sym (ap (λ (b : Bool). cond b t.head-1.carry-1.first t.counts-1.first) c.if-head.false) ∙ by_summary j t e
+    sym (ap (λ (b : Bool). cond b t.head.carry.first t.counts.first) c.if-head.false) ∙ by_summary j t e

@@ -2,7 +2,6 @@
 use mathlib.Core.Path.{sym, ◌∙◌}
 use Rattle.reads.proofs.Days.{read_on_day, none_on_day}
 use Rattle.reads.proofs.Counted.{rises}
-use borrow.Author.Rules.{rules}
 use Rattle.reads.proofs.found.has_standing.Goals as goal
 
 pub returns-in-Read : goal.returns-in-Read

@@ -1,5 +1,4 @@
 use mathlib.Core.Path.{ap}
-use borrow.Author.Rules.{rules}
 use Rattle.reads.specs.declared.search.Search.{Search}
 use Rattle.reads.specs.Search.{search_answer}
 use Rattle.reads.proofs.found.read_on.Goals as goal

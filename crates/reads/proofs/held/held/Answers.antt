@@ -1,7 +1,6 @@
 -- None where all entries are kept, and else the entry after those.
 use mathlib.Core.Path.{◌∙◌}
 use Rattle.reads.proofs.Counted.{held_none, held_in}
-use borrow.Author.Rules.{rules}
 use Rattle.reads.proofs.held.held.Goals as goal
 
 pub returns-then-counts-t : goal.returns-then-counts-t

@@ -1,7 +1,6 @@
 -- The part that is lent has the entry whole.
 use mathlib.Core.Path.{◌∙◌}
 use Rattle.register.proofs.Parts.{part_entry}
-use borrow.Author.Rules.{rules}
 use Rattle.reads.proofs.read.entry_at.Goals as goal
 
 pub returns : goal.returns

@@ -1,11 +1,11 @@
 -- The entries taken off do not stand.
 use mathlib.Core.Path.{◌≡◌, refl}
-use Prim.Native.Nat.{suc, ◌-◌, ◌≤◌}
+use Prim.Native.Nat.{suc, ◌-◌}
 use native.Mathlib.Omega.{arith}
 use borrow.Author.Tests.{eq-eqb, ne_eqb}
 use Rattle.terms.specs.Entry.{is_standing, those}
 use Rattle.register.specs.Entries.{entry_at}
-use Rattle.journal.specs.Journal.{entries_to, standing}
+use Rattle.journal.specs.Journal.{entries_to}
 use Rattle.journal.proofs.Entries.{last_entry}
 use Rattle.reads.proofs.recent.back.Goals as goal
 

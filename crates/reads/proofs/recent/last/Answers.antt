@@ -2,7 +2,6 @@
 use mathlib.Core.Path.{◌∙◌}
 use Rattle.terms.specs.Entry.{slot_at}
 use Rattle.reads.proofs.Counted.{none_stand, newest_in}
-use borrow.Author.Rules.{rules}
 use Rattle.reads.proofs.recent.last.Goals as goal
 
 pub returns-then-counts-eq0 : goal.returns-then-counts-eq0

@@ -2,7 +2,6 @@
 use native.Mathlib.Omega.{arith}
 use Rattle.terms.specs.Entry.{slot_at}
 use Rattle.reads.proofs.Back.{none_left, one_left}
-use borrow.Author.Rules.{rules}
 use Rattle.reads.proofs.recent.last_over.Goals as goal
 
 pub returns-then-b-eq0 : goal.returns-then-b-eq0

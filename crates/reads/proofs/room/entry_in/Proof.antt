@@ -3,7 +3,6 @@ use mathlib.Core.Path.{◌≡◌, sym, ◌∙◌}
 use mathlib.Core.Bool.{true}
 use Prim.Native.Nat.{suc}
 use native.Mathlib.Omega.{arith}
-use borrow.Author.Tests.{not-true, not-false}
 use Rattle.reads.specs.Inner.Room.{has_room, slot_in}
 use Rattle.reads.proofs.Lent.{lent_is, lent_room, start_room}
 use borrow.Author.Rules.{rules}

@@ -1,6 +1,5 @@
 -- The code is the definition, test for test.
 use Rattle.reads.specs.Inner.Room.{has_room}
-use borrow.Author.Rules.{rules}
 use Rattle.reads.proofs.room.has_entry.Goals as goal
 
 pub returns : goal.returns

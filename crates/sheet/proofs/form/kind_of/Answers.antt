@@ -30,7 +30,7 @@ returns-in-6 c = rw c.in-6.is
 pub returns-in_default : goal.returns-in_default
 unfolding kind_byte kind_in kind_of
 returns-in_default c =
-    let none = c.in-1.rest in
+    let none = c.in_default.in_default-own.rest in
     rw (
       ne_eqb _ _ none.0.0.0.0.0.1,
       ne_eqb _ _ none.0.0.0.0.1,

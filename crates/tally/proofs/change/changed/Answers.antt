@@ -10,7 +10,6 @@ use Rattle.calls.specs.declared.call.Reply.TheVariants.{Reported}
 use Rattle.calls.specs.Play.{number_of}
 use Rattle.tally.specs.declared.tally.Tally.{Tally}
 use Rattle.tally.specs.Change.{taken, tally_after}
-use borrow.Author.Rules.{rules}
 use Rattle.tally.proofs.change.changed.Goals as goal
 
 -- a report's answer changes nothing, whatever the call

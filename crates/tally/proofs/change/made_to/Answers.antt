@@ -2,7 +2,6 @@
 use mathlib.Core.Path.{sym, ◌∙◌}
 use borrow.Author.Tests.{eq-eqb, ne_eqb}
 use Rattle.terms.specs.Number.{accepted}
-use borrow.Author.Rules.{rules}
 use Rattle.tally.proofs.change.made_to.Goals as goal
 
 pub returns-then-tally_number-eq-ACCEPTED : goal.returns-then-tally_number-eq-ACCEPTED

@@ -1,7 +1,6 @@
 -- A value below the limit is shown.
 use borrow.Author.Tests.{lt-ltb, le-ltb}
 use Rattle.tally.specs.Inner.Moved.{shown_by}
-use borrow.Author.Rules.{rules}
 use Rattle.tally.proofs.change.shown.Goals as goal
 
 pub returns-then-value-limit : goal.returns-then-value-limit

@@ -1,6 +1,5 @@
 -- The code asks what the definition asks, with the limit at hand.
 use Rattle.tally.specs.Tally.{has_other_dials, is_no_value, is_broken}
-use borrow.Author.Rules.{rules}
 use Rattle.tally.proofs.tally.is_broken.Goals as goal
 
 pub returns : goal.returns

@@ -2,7 +2,6 @@
 use mathlib.Core.Path.{sym}
 use native.Mathlib.Omega.{arith}
 use Rattle.arithmetic.proofs.Laws.{ten_at_most, past_table}
-use borrow.Author.Rules.{rules}
 use Rattle.tally.proofs.tally.limit_of.Goals as goal
 
 pub overflow_cast-result : goal.overflow_cast-result

@@ -1,7 +1,6 @@
 -- The first rule broken: zero, and then broken.
 use mathlib.Core.Path.{sym, ◌∙◌}
 use Rattle.tally.specs.Tally.{tally_number}
-use borrow.Author.Rules.{rules}
 use Rattle.tally.proofs.tally.tally_number.Goals as goal
 
 pub returns-then-is_zero : goal.returns-then-is_zero
