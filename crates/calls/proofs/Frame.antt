@@ -158,7 +158,7 @@ module _ (local : Local) (meter : ℕ) (near : Near meter) where
 
     owned : is_picked meter answered ≡ true → place_of call ≡ meter
     unfolding is_picked
-    owned h = named_place meter call (both (names meter call) (may_change (number_of (step call A).reply)) h).0
+    owned h = named_place meter call (both (names meter call) _ h).0
 
     left_out : is_picked meter answered ≡ false → area_of meter (step call A).register ≡ area_of meter A
     unfolding is_picked

@@ -19,6 +19,7 @@ pub mod Passed
 pub mod Accepted
 pub mod Acted
 pub mod Kept
+pub mod Foretold
 pub mod Tried
 pub mod Frame
 pub mod Totals
@@ -28,6 +29,8 @@ pub mod Invariant
 pub mod Unenrolled
 pub mod Chains
 pub mod Known
+pub mod TriedEntries
+pub mod TriedPicks
 pub mod Trials
 pub mod Refusals
 pub mod KeptAll

@@ -1,16 +1,17 @@
 -- A list of calls does the same without the trials in it: each leaves the register as it was, and is no call on a meter.
 use mathlib.Core.Path.{◌≡◌, refl, ap, ◌∙◌}
-use mathlib.Core.Bool.{true, false}
 use mathlib.Core.List.{List, [], ◌∷◌}
 use Prim.Native.Nat.{ℕ}
 use Rattle.calls.specs.declared.call.Call.{Call}
 use Rattle.calls.specs.Calls.{step}
-use Rattle.calls.specs.Play.{Exchange, exchange, exchanges, register_after, zero_register, is_trial, names, is_picked, picked, calls_of}
-use Rattle.calls.specs.Ledger.{Ledger, empty_ledger, is_accepted, ledger_after, ledger_of}
+use Rattle.calls.specs.Play.{Exchange, exchange, exchanges, register_after, zero_register, is_trial, picked, calls_of}
+use Rattle.calls.specs.Ledger.{empty_ledger, ledger_of}
 use Rattle.calls.specs.DemandThree.{run_a}
 use Rattle.calls.specs.Trials.{less_trials, less_tried, TrialsAlterNothing}
 use Rattle.calls.proofs.Bools.{by_test}
 use Rattle.calls.proofs.Tried.{untouched}
+use Rattle.calls.proofs.TriedEntries.{same_ledger}
+use Rattle.calls.proofs.TriedPicks.{same_picked}
 
 -- ---- bytes and answers
 pub same_bytes : (calls : List Call) (register : List ℕ) → register_after calls register ≡ register_after (less_trials calls) register
@@ -33,36 +34,16 @@ same_answers (call ∷ calls) register =
 
 -- ---- a meter's part of a run
 module _ (meter : ℕ) where
-  tried_unnamed : (call : Call) → is_trial call ≡ true → names meter call ≡ false
-  unfolding names
-  tried_unnamed call h = rw h
-
-  same_ledger : (xs : List Exchange) (l : Ledger) → ledger_after meter xs l ≡ ledger_after meter (less_tried xs) l
-  unfolding ledger_after less_tried is_accepted
-  same_ledger [] l = refl
-  same_ledger (x ∷ xs) l =
-      by_test (is_trial x.call)
-      (λ h. rw (h, tried_unnamed x.call h) (same_ledger xs l))
-      (λ h. rw h (same_ledger xs _))
-
-  same_picked : (xs : List Exchange) → picked meter xs ≡ picked meter (less_tried xs)
-  unfolding picked less_tried is_picked
-  same_picked [] = refl
-  same_picked (x ∷ xs) =
-      by_test (is_trial x.call)
-      (λ h. rw (h, tried_unnamed x.call h) (same_picked xs))
-      (λ h. rw (h, same_picked xs))
-
   module _ (calls : List Call) where
     same_runs : less_tried (run_a calls) ≡ run_a (less_trials calls)
     same_runs = same_answers calls zero_register
 
     pub same_sum : ledger_of meter (run_a calls) ≡ ledger_of meter (run_a (less_trials calls))
     unfolding ledger_of
-    same_sum = same_ledger (run_a calls) empty_ledger ∙ ap (ledger_of meter) same_runs
+    same_sum = same_ledger meter (run_a calls) empty_ledger ∙ ap (ledger_of meter) same_runs
 
     pub same_calls : calls_of (picked meter (run_a calls)) ≡ calls_of (picked meter (run_a (less_trials calls)))
-    same_calls = ap calls_of (same_picked (run_a calls) ∙ ap (picked meter) same_runs)
+    same_calls = ap calls_of (same_picked meter (run_a calls) ∙ ap (picked meter) same_runs)
 
 pub trials_alter_nothing : TrialsAlterNothing
 unfolding TrialsAlterNothing

@@ -3,25 +3,15 @@ use mathlib.Core.Path.{◌≡◌, refl, sym, ap}
 use mathlib.Core.Bool.{true}
 use mathlib.Core.List.{List}
 use Prim.Native.Nat.{ℕ}
-use lib.Dec.{eqb}
 use Rattle.terms.specs.declared.submission.Submission.{Submission}
-use Rattle.terms.specs.Number.{accepted}
-use Rattle.register.specs.Area.{area_of}
-use Rattle.register.proofs.Areas.{own_area}
 use Rattle.calls.specs.declared.call.Call.{Call}
 use Rattle.calls.specs.declared.call.Call.TheVariants.{Enrol, Submit, Withdraw, Report as ReportCall, Fold, Trial}
 use Rattle.calls.specs.declared.call.Reply.{Reply}
-use Rattle.calls.specs.Calls.{submit_in, trial_in, act, place_of, refusal_of, place_number, on_area, Done, done, step}
+use Rattle.calls.specs.Calls.{Done, done, step}
 use Rattle.calls.specs.Play.{is_trial}
 use Rattle.calls.specs.Trials.{TrialsForetell}
-use Rattle.calls.proofs.Bools.{apart, by_test}
-
-pub foretells : TrialsForetell
-unfolding TrialsForetell step act trial_in place_of refusal_of on_area
-foretells place s register =
-    by_test (eqb (place_number place register) accepted)
-    (λ h. rw h (ap (done (submit_in s (area_of place register)).reply) (own_area place register)))
-    (λ h. rw h)
+use Rattle.calls.proofs.Bools.{apart}
+use Rattle.calls.proofs.Foretold.{foretells}
 
 -- the submission's answer, and the register as it is, are what the trial comes to
 pub is_trial_lem : (place : ℕ) (s : Submission) (register : List ℕ) {reply : Reply} → reply ≡ (step (Submit place s) register).reply → done reply register ≡ step (Trial place s) register
