@@ -23,8 +23,8 @@ impl Room {
 
 // Notes where the standing ones among the first m entries are, in their order, and says how many.
 fn note_standing(body: &[u8], m: u8, places: &mut [u8; Room::PLACES]) -> u8
-    requires m_in_bounds { entry_start m ≤ length body.now }
-    requires m_in_bounds_2 { m ≤ length places.old }
+    requires body_room { entry_start m ≤ length body.now }
+    requires places_room { m ≤ length places.old }
     ensures { Places body.now m places.new result }
 {
     let mut n: u8 = 0;
@@ -79,7 +79,7 @@ fn first_from(body: &[u8], places: &[u8; Room::PLACES], n: u8, day: u16) -> u8
 // One of the entries at n places has this day and value. Only the first one from the day on can be of that day.
 fn is_placed(body: &[u8], places: &[u8; Room::PLACES], n: u8, day: u16, value: u32) -> bool
     requires inside { Inside body.now places.now n }
-    requires n_value { days_rise (placed body.now places.now n) ≡ true }
+    requires rising { days_rise (placed body.now places.now n) ≡ true }
     ensures { result ≡ any (has_read day value) (placed body.now places.now n) }
 {
     let i = first_from(body, places, n, day);
@@ -100,9 +100,9 @@ fn stands_again(
     e: Entry,
 ) -> bool
     requires inside { Inside body.now places.now n }
-    requires n_value { days_rise (placed body.now places.now n) ≡ true }
-    requires last_value { last ≡ day_of (slot_at (placed body.now places.now n) 0) }
-    requires marks_value { marks ≡ value_marks (placed body.now places.now n) }
+    requires rising { days_rise (placed body.now places.now n) ≡ true }
+    requires last_day { last ≡ day_of (slot_at (placed body.now places.now n) 0) }
+    requires marks_are { marks ≡ value_marks (placed body.now places.now n) }
     ensures { result ≡ is_withdrawn e && any (has_read e.day e.value) (placed body.now places.now n) }
 {
     if !is_withdrawn(e) {
@@ -119,9 +119,9 @@ fn stands_again(
 
 // No standing read has both the day and the value of a withdrawn one. The caller knows the day of the last standing one, and that days rise.
 pub(crate) fn are_apart(body: &[u8], m: u8, last: u16) -> bool
-    requires m_in_bounds { entry_start m ≤ length body.now }
-    requires last_value { last ≡ day_of (slot_at (standing (entries_to m body.now)) 0) }
-    requires body_value { days_rise (standing (entries_to m body.now)) ≡ true }
+    requires body_room { entry_start m ≤ length body.now }
+    requires last_day { last ≡ day_of (slot_at (standing (entries_to m body.now)) 0) }
+    requires rising { days_rise (standing (entries_to m body.now)) ≡ true }
     ensures { result ≡ are_apart (standing (entries_to m body.now)) (withdrawn (entries_to m body.now)) }
 {
     let mut places = [0; Room::PLACES];

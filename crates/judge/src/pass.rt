@@ -59,7 +59,7 @@ fn pass_with(pass: Pass, limits: Limits, clear: bool, e: Entry) -> Pass
 
 // Past the plain entries that follow, where the meter takes every type, a read stands and none is held.
 fn pass_plain(body: &[u8], limits: Limits, index: &mut [u8; Index::BUCKETS], pass: Pass) -> Pass
-    requires most_in_bounds { (entry_start limits.most ≤ length body.now) × (pass.run.count ≤ limits.most) × (pass.run ≡ run_of (entries_to pass.run.count body.now)) }
+    requires counted { (entry_start limits.most ≤ length body.now) × (pass.run.count ≤ limits.most) × (pass.run ≡ run_of (entries_to pass.run.count body.now)) }
     requires indexed { Indexed body.now pass.run.count index.old }
     ensures { PassesTo body.now limits pass result × Indexed body.now result.run.count index.new }
 {
@@ -86,7 +86,7 @@ fn pass_plain(body: &[u8], limits: Limits, index: &mut [u8; Index::BUCKETS], pas
 // Whether one entry more is clear of those before it: a standing one by the index, and a withdrawn one, which is put into it, if it is later
 // than every standing one.
 fn compare(body: &[u8], index: &mut [u8; Index::BUCKETS], run: Run, e: Entry) -> bool
-    requires count_in_bounds { (entry_start run.count ≤ length body.now) × (run.count < crowded) × (e ≡ entry_at body.now (entry_start run.count)) }
+    requires counted { (entry_start run.count ≤ length body.now) × (run.count < crowded) × (e ≡ entry_at body.now (entry_start run.count)) }
     requires indexed { Indexed body.now run.count index.old }
     ensures { IsClear body.now run e result × Indexed body.now (run.count + 1) index.new }
 {
@@ -104,7 +104,7 @@ fn compare(body: &[u8], index: &mut [u8; Index::BUCKETS], run: Run, e: Entry) ->
 
 // One entry more, by all the rules.
 fn pass_entry(body: &[u8], limits: Limits, index: &mut [u8; Index::BUCKETS], pass: Pass) -> Pass
-    requires most_in_bounds { (entry_start limits.most ≤ length body.now) × (pass.run.count < limits.most) × (pass.run ≡ run_of (entries_to pass.run.count body.now)) }
+    requires counted { (entry_start limits.most ≤ length body.now) × (pass.run.count < limits.most) × (pass.run ≡ run_of (entries_to pass.run.count body.now)) }
     requires indexed { Indexed body.now pass.run.count index.old }
     ensures { GoesOn body.now limits pass result × Indexed body.now result.run.count index.new }
 {
@@ -116,7 +116,7 @@ fn pass_entry(body: &[u8], limits: Limits, index: &mut [u8; Index::BUCKETS], pas
 
 // Past the plain entries that follow, or past one entry by all the rules.
 fn pass_next(body: &[u8], limits: Limits, index: &mut [u8; Index::BUCKETS], pass: Pass) -> Pass
-    requires most_in_bounds { (entry_start limits.most ≤ length body.now) × (pass.run.count < limits.most) × (pass.run ≡ run_of (entries_to pass.run.count body.now)) }
+    requires counted { (entry_start limits.most ≤ length body.now) × (pass.run.count < limits.most) × (pass.run ≡ run_of (entries_to pass.run.count body.now)) }
     requires indexed { Indexed body.now pass.run.count index.old }
     ensures { GoesOn body.now limits pass result × Indexed body.now result.run.count index.new }
 {
@@ -137,8 +137,8 @@ pub(crate) fn pass_rest(
     index: &mut [u8; Index::BUCKETS],
     opened: Pass,
 ) -> Pass
-    requires most_in_bounds { (entry_start limits.most ≤ length body.now) × IsLimits head limits × Starts body.now limits opened }
-    requires index_len { length index.old ≡ buckets }
+    requires started { (entry_start limits.most ≤ length body.now) × IsLimits head limits × Starts body.now limits opened }
+    requires index_size { length index.old ≡ buckets }
     ensures { IsPassed head body.now result × (result.ordered ≡ true → Indexed body.now result.run.count index.new) }
 {
     let mut pass = opened;

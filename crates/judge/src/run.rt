@@ -184,7 +184,7 @@ pub(crate) fn run_over(
     index: &mut [u8; Index::BUCKETS],
     from: Run,
 ) -> Run
-    requires most_in_bounds { (entry_start limits.most ≤ length body.now) × (from.count ≤ limits.most) × (from ≡ run_of (entries_to from.count body.now)) × (from.standing ≡ 0 → ⊥) }
+    requires counted { (entry_start limits.most ≤ length body.now) × (from.count ≤ limits.most) × (from ≡ run_of (entries_to from.count body.now)) × (from.standing ≡ 0 → ⊥) }
     requires indexed { Indexed body.now from.count index.old }
     ensures { RunsTo body.now limits from result × Indexed body.now result.count index.new }
 {

@@ -22,7 +22,7 @@ module _ (c : tie.After-play_from-p invariant_loop decreases_loop) where
   abbrev turn : tie.In-loop-at invariant_loop decreases_loop
   turn = c.before.before.before.before
 
-  room : line_most ≤ length turn.before.loop-at.text-1
+  room : line_most ≤ length turn.before.loop-at.text
   room = omega (arith, turn.before.loop-at.invariant.1)
 
   within : c.play_from-p.result.end ≤ length c.play_from-p.new.1.1.0

@@ -29,13 +29,10 @@ loop-i-preserved c =
 
 pub returns : goal.returns
 returns c =
-    let left = c in
-    let loop = left in
-    let inv = loop.loop-i.invariant in
-    let start = loop in
+    let inv = c.loop-i.invariant in
     from_zero
     _
     _
     _
-    (λ h. passed_all left.loop-i-test.false start.requires.1 inv.1 (or_parts loop.loop-i.lanes.low loop.loop-i.lanes.high h))
-    (λ h. (let clear = inv.1.kept h in or_none loop.loop-i.lanes.low loop.loop-i.lanes.high clear.0 clear.1))
+    (λ h. passed_all c.loop-i-test.false c.requires.1 inv.1 (or_parts c.loop-i.lanes.low c.loop-i.lanes.high h))
+    (λ h. (let clear = inv.1.kept h in or_none c.loop-i.lanes.low c.loop-i.lanes.high clear.0 clear.1))

@@ -23,18 +23,15 @@ loop-i-smaller c = omega (arith, c.loop-i-test.true)
 pub loop-i-preserved : goal.loop-i-preserved
 loop-i-preserved c =
     let eight = c.eight_at-bits-in-loop-i.ensures in
-    let loop = c in
-    let inv = loop.loop-i.invariant in (
+    let inv = c.loop-i.invariant in (
       omega (arith, inv.0),
       passed_more inv.0 inv.1
-          (λ h. (or_parts loop.loop-i.bits _ h).0)
-          (λ h. eight.passed (or_parts loop.loop-i.bits _ h).1)
-          (λ h zeros. or_none loop.loop-i.bits _ h (eight.kept zeros)),
+          (λ h. (or_parts c.loop-i.bits _ h).0)
+          (λ h. eight.passed (or_parts c.loop-i.bits _ h).1)
+          (λ h zeros. or_none c.loop-i.bits _ h (eight.kept zeros)),
     )
 
 pub returns : goal.returns
 returns c =
-    let loop = c in
-    let inv = loop.loop-i.invariant in
-    let start = loop in
-    from_zero _ _ _ (passed_all c.loop-i-test.false start.requires.1 inv.1) inv.1.kept
+    let inv = c.loop-i.invariant in
+    from_zero _ _ _ (passed_all c.loop-i-test.false c.requires.1 inv.1) inv.1.kept

@@ -32,9 +32,7 @@ pub loop-i-smaller : goal.loop-i-smaller
 loop-i-smaller c = omega arith
 
 pub loop-i-preserved : goal.loop-i-preserved
-loop-i-preserved c =
-    let old = c in
-    sym (one_more old.loop-i.zero old.args.bytes.now old.loop-i.i c.loop-i-test.true) ∙ old.loop-i.invariant
+loop-i-preserved c = sym (one_more c.loop-i.zero c.args.bytes.now c.loop-i.i c.loop-i-test.true) ∙ c.loop-i.invariant
 
 pub returns : goal.returns
 returns c = sym (none_left _ _ _ c.loop-i-test.false) ∙ c.loop-i.invariant

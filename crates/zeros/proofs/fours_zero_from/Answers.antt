@@ -4,6 +4,4 @@ use Rattle.zeros.proofs.Blocks.{both_ends}
 use Rattle.zeros.proofs.fours_zero_from.Goals as goal
 
 pub returns : goal.returns
-returns c =
-    let start = c in
-    both_ends _ _ 4 _ _ start.requires.0 (omega (arith, start.requires.1)) start.requires.2 c.four_at.ensures c.four_at-2.ensures
+returns c = both_ends _ _ 4 _ _ c.requires.0 (omega (arith, c.requires.1)) c.requires.2 c.four_at.ensures c.four_at-2.ensures

@@ -11,12 +11,10 @@ pub overflow_sub-result : goal.overflow_sub-result
 overflow_sub-result c = turned_fits c.args.n c.ranges.n c.if-n-lt0.true
 
 pub overflow_cast-result : goal.overflow_cast-result
-overflow_cast-result c =
-    rw (turned_reads c.args.n c.ranges.n c.if-n-lt0.true) (tt, omega (arith, c.ranges.n.sfits))
+overflow_cast-result c = rw (turned_reads c.args.n c.ranges.n c.if-n-lt0.true) (tt, omega (arith, c.ranges.n.sfits))
 
 pub overflow_add-result-then-n-lt0 : goal.overflow_add-result-then-n-lt0
-overflow_add-result-then-n-lt0 c =
-    rw (turned_reads c.args.n c.ranges.n c.if-n-lt0.true) (omega (arith, c.ranges.n.sfits))
+overflow_add-result-then-n-lt0 c = rw (turned_reads c.args.n c.ranges.n c.if-n-lt0.true) (omega (arith, c.ranges.n.sfits))
 
 pub returns-then-n-lt0 : goal.returns-then-n-lt0
 returns-then-n-lt0 c =

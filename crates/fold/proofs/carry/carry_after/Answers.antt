@@ -26,13 +26,13 @@ use borrow.Author.Rules.{rules}
 use Rattle.fold.proofs.carry.carry_after.Goals as goal
 
 module _ (area : List ℕ) (t : Summary) (c : Counted area t) where
-  many : is_no_fold (standing (journal_of area).entries) ≡ false → least_to_fold ≤ t.counts-1.standing
+  many : is_no_fold (standing (journal_of area).entries) ≡ false → least_to_fold ≤ t.counts.standing
   unfolding is_no_fold summary_of counts_of
   many can =
       let n : least_to_fold ≤ length (standing (journal_of area).entries) = ltb-false _ _ (neither (ltb (length (standing (journal_of area).entries)) least_to_fold) (any is_final_read (standing (journal_of area).entries)) can).0 in
       rw c.summary n
 
-  counts_fit : (t.head-1.carry-1.folded + t.counts-1.standing ≤ t.day) × (t.head-1.carry-1.flagged + t.counts-1.flagged ≤ t.day)
+  counts_fit : (t.head.carry.folded + t.counts.standing ≤ t.day) × (t.head.carry.flagged + t.counts.flagged ≤ t.day)
   counts_fit =
       let j = journal_of area in
       let s = few_standing area c.sound in
@@ -40,31 +40,29 @@ module _ (area : List ℕ) (t : Summary) (c : Counted area t) where
       (omega (arith, s, day, standing_counted j t c.summary), omega (arith, s, few_flagged area c.sound, day, flagged_counted j t c.summary))
 
   module _ (kept : Recent) (is : kept ≡ recent_of (standing (journal_of area).entries)) where
-    flags_fit : t.counts-1.flagged ≡ flagged_of (drop reads_kept (standing (journal_of area).entries)) + flags_in kept
+    flags_fit : t.counts.flagged ≡ flagged_of (drop reads_kept (standing (journal_of area).entries)) + flags_in kept
     unfolding summary_of counts_of flagged_of
     flags_fit = rw (c.summary, is) (flags_apart (standing (journal_of area).entries))
 
-    carry_is : {flags first : ℕ} → flags ≡ flags_in kept → first ≡ first_in (journal_of area).head-1 (standing (journal_of area).entries) → record { first = first; folded = t.head-1.carry-1.folded + (t.counts-1.standing - reads_kept); flagged = t.head-1.carry-1.flagged + (t.counts-1.flagged - flags) } ≡ carry_after (journal_of area)
+    carry_is : {flags first : ℕ} → flags ≡ flags_in kept → first ≡ first_in (journal_of area).head (standing (journal_of area).entries) → record { first = first; folded = t.head.carry.folded + (t.counts.standing - reads_kept); flagged = t.head.carry.flagged + (t.counts.flagged - flags) } ≡ carry_after (journal_of area)
     unfolding carry_after flagged_in summary_of counts_of
     carry_is {flags} {first} f v =
-        let folded : t.head-1.carry-1.folded + (t.counts-1.standing - reads_kept) ≡ (journal_of area).head-1.carry-1.folded + (length (standing (journal_of area).entries) - reads_kept) = rw c.summary in
-        let more : t.counts-1.flagged - flags ≡ flagged_of (drop reads_kept (standing (journal_of area).entries)) = omega (arith, f, flags_fit) in
-        let before : t.head-1.carry-1.flagged ≡ (journal_of area).head-1.carry-1.flagged = rw c.summary in
+        let folded : t.head.carry.folded + (t.counts.standing - reads_kept) ≡ (journal_of area).head.carry.folded + (length (standing (journal_of area).entries) - reads_kept) = rw c.summary in
+        let more : t.counts.flagged - flags ≡ flagged_of (drop reads_kept (standing (journal_of area).entries)) = omega (arith, f, flags_fit) in
+        let before : t.head.carry.flagged ≡ (journal_of area).head.carry.flagged = rw c.summary in
         cc (v, folded, more, before)
 
 pub overflow_sub-folded : goal.overflow_sub-folded
-overflow_sub-folded c = let s = c in omega (arith, many _ _ s.requires.0 s.requires.2)
+overflow_sub-folded c = omega (arith, many _ _ c.requires.0 c.requires.2)
 
 pub overflow_sub-flagged : goal.overflow_sub-flagged
-overflow_sub-flagged c =
-    let s = c in
-    omega (arith, flags_fit s.args.area.now s.args.t s.requires.0 s.args.kept s.requires.1, c.flags_in.ensures)
+overflow_sub-flagged c = omega (arith, flags_fit c.args.area.now c.args.t c.requires.0 c.args.kept c.requires.1, c.flags_in.ensures)
 
 pub overflow_add-result : goal.overflow_add-result
-overflow_add-result c = let s = c in omega (arith, (counts_fit _ _ s.requires.0).0)
+overflow_add-result c = omega (arith, (counts_fit _ _ c.requires.0).0)
 
 pub overflow_add-result-2 : goal.overflow_add-result-2
-overflow_add-result-2 c = let s = c in omega (arith, (counts_fit _ _ s.requires.0).1)
+overflow_add-result-2 c = omega (arith, (counts_fit _ _ c.requires.0).1)
 
 pub returns : goal.returns
-returns c = let s = c in let flags = c.flags_in.ensures in carry_is s.args.area.now s.args.t s.requires.0 s.args.kept s.requires.1 flags (c.first.ensures _ s.requires.0.summary)
+returns c = let flags = c.flags_in.ensures in carry_is c.args.area.now c.args.t c.requires.0 c.args.kept c.requires.1 flags (c.first.ensures _ c.requires.0.summary)

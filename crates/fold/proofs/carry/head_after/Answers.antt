@@ -11,9 +11,9 @@ use Rattle.calls.specs.Fold.{carry_after, head_after}
 use borrow.Author.Rules.{rules}
 use Rattle.fold.proofs.carry.head_after.Goals as goal
 
-head_is : (area : List ℕ) (t : Summary) → Counted area t → {carry : Carry} → carry ≡ carry_after (journal_of area) → record { profile = t.head-1.profile; dials = t.head-1.dials; capacity = t.head-1.capacity; carried = true; carry = carry } ≡ head_after (journal_of area)
+head_is : (area : List ℕ) (t : Summary) → Counted area t → {carry : Carry} → carry ≡ carry_after (journal_of area) → record { profile = t.head.profile; dials = t.head.dials; capacity = t.head.capacity; carried = true; carry = carry } ≡ head_after (journal_of area)
 unfolding head_after summary_of
 head_is area t c e = rw (e, c.summary)
 
 pub returns : goal.returns
-returns c = let s = c in head_is _ _ s.requires.0 c.carry_after-carry.ensures
+returns c = head_is _ _ c.requires.0 c.carry_after-carry.ensures

@@ -8,7 +8,7 @@ use Rattle.judge.specs.Inner.Judged.{counts_of, summary_of}
 use Rattle.calls.specs.Checks.{least_to_fold, is_no_fold}
 use Rattle.fold.proofs.decide.is_no_fold.Goals as goal
 
-by_summary : (j : Journal) (t : Summary) → t ≡ summary_of j → ltb t.counts-1.standing least_to_fold || t.ended ≡ is_no_fold (standing j.entries)
+by_summary : (j : Journal) (t : Summary) → t ≡ summary_of j → ltb t.counts.standing least_to_fold || t.ended ≡ is_no_fold (standing j.entries)
 unfolding summary_of counts_of is_no_fold
 by_summary j t e = rw e
 

@@ -63,19 +63,11 @@ module _ (area : List ℕ) where
 
 pub write_folded-requires : goal.write_folded-requires
 write_folded-requires c =
-    let t = c in
-    let d = t in
-    let decision = sym d.decide_fold.ensures.decision_is ∙ t.in-Taken.is in
-    may_write _ decision d.requires
+    let decision = sym c.decide_fold.ensures.decision_is ∙ c.in-Taken.is in
+    may_write _ decision c.requires
 
 pub returns-in-Refused : goal.returns-in-Refused
-returns-in-Refused c =
-    let d = c in
-    stays _ (sym d.decide_fold.ensures.decision_is ∙ c.in-Refused.is) c.refuse.ensures
+returns-in-Refused c = stays _ (sym c.decide_fold.ensures.decision_is ∙ c.in-Refused.is) c.refuse.ensures
 
 pub returns-in-Taken : goal.returns-in-Taken
-returns-in-Taken c =
-    let w = c in
-    let t = w in
-    let d = t in
-    folds _ (sym d.decide_fold.ensures.decision_is ∙ t.in-Taken.is) c.accept.ensures w.write_folded.ensures
+returns-in-Taken c = folds _ (sym c.decide_fold.ensures.decision_is ∙ c.in-Taken.is) c.accept.ensures c.write_folded.ensures

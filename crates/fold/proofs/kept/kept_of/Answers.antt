@@ -19,9 +19,7 @@ pub loop-k-smaller : goal.loop-k-smaller
 loop-k-smaller c = omega arith
 
 pub loop-k-preserved : goal.loop-k-preserved
-loop-k-preserved c =
-    let old = c in
-    (omega arith, rw (one_more, ← c.entry_after-e.ensures) (c.newer-kept.ensures _ old.loop-k.invariant.1))
+loop-k-preserved c = (omega arith, rw (one_more, ← c.entry_after-e.ensures) (c.newer-kept.ensures _ c.loop-k.invariant.1))
 
 pub returns : goal.returns
 returns c =

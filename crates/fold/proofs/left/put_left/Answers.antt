@@ -15,7 +15,7 @@ unfolding entries_to those put_entries
 loop-k-init c = (omega arith, omega arith, refl, refl, refl)
 
 pub put_next-count-requires : goal.put_next-count-requires
-put_next-count-requires c = let loop = c in omega (arith, loop.loop-k.invariant.0, loop.loop-k.invariant.1)
+put_next-count-requires c = omega (arith, c.loop-k.invariant.0, c.loop-k.invariant.1)
 
 pub overflow_add-k : goal.overflow_add-k
 overflow_add-k c = omega arith
@@ -26,11 +26,9 @@ loop-k-smaller c = omega arith
 pub loop-k-preserved : goal.loop-k-preserved
 unfolding those
 loop-k-preserved c =
-    let put = c in
-    let entry = put in
-    let inv = entry.loop-k.invariant in
-    let more = put.put_next-count.ensures.1 _ _ inv.3 inv.4 in
-    (omega arith, omega (arith, put.put_next-count.ensures.0, inv.1), put.put_next-count.auto.0 ∙ inv.2, rw (one_more, ← entry.entry_after-e.ensures) more.0, rw (one_more, ← entry.entry_after-e.ensures) more.1)
+    let inv = c.loop-k.invariant in
+    let more = c.put_next-count.ensures.1 _ _ inv.3 inv.4 in
+    (omega arith, omega (arith, c.put_next-count.ensures.0, inv.1), c.put_next-count.auto.left ∙ inv.2, rw (one_more, ← c.entry_after-e.ensures) more.0, rw (one_more, ← c.entry_after-e.ensures) more.1)
 
 pub returns : goal.returns
 returns c =

@@ -27,4 +27,4 @@ pub returns-then-not-stays : goal.returns-then-not-stays
 returns-then-not-stays c = (omega arith, λ area es n p. kept_as _ _ (sym c.stays.ensures ∙ c.if-not-stays.true) area es n p)
 
 pub returns : goal.returns
-returns c = let put = c in let e = put in (omega arith, λ area es n p. put_as _ _ (sym e.stays.ensures ∙ e.if-not-stays.false) area es n p put.offset_after.ensures put.put_entry.ensures)
+returns c = (omega arith, λ area es n p. put_as _ _ (sym c.stays.ensures ∙ c.if-not-stays.false) area es n p c.offset_after.ensures c.put_entry.ensures)

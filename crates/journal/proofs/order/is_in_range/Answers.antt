@@ -14,12 +14,11 @@ returns-then-limit-e c = λ l. rw (ne_eqb _ _ c.if-e-eq0.false, ← l, le-ltb _ 
 pub returns-then-not-takes : goal.returns-then-not-takes
 unfolding is_in_range holds
 returns-then-not-takes c =
-    let small = c in
     λ l.
     rw (
-      ne_eqb _ _ small.if-e-eq0.false,
+      ne_eqb _ _ c.if-e-eq0.false,
       ← l,
-      lt-ltb _ _ small.if-limit-e.false,
+      lt-ltb _ _ c.if-limit-e.false,
       ← c.takes.ensures,
       c.if-not-takes.true,
     )
@@ -27,14 +26,12 @@ returns-then-not-takes c =
 pub returns : goal.returns
 unfolding is_in_range holds
 returns c =
-    let known = c in
-    let small = known in
     λ l.
     rw (
-      ne_eqb _ _ small.if-e-eq0.false,
+      ne_eqb _ _ c.if-e-eq0.false,
       ← l,
-      lt-ltb _ _ small.if-limit-e.false,
-      ← known.takes.ensures,
-      known.if-not-takes.false,
+      lt-ltb _ _ c.if-limit-e.false,
+      ← c.takes.ensures,
+      c.if-not-takes.false,
       c.is_opening.ensures,
     )

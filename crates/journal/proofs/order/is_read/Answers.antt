@@ -5,24 +5,22 @@ use Rattle.journal.proofs.order.is_read.Goals as goal
 pub returns-then-not-is_standing-is_withdrawn : goal.returns-then-not-is_standing-is_withdrawn
 unfolding is_read
 returns-then-not-is_standing-is_withdrawn c =
-    let k = c in
     λ l.
     rw (
-      ← k.is_standing.ensures,
-      ← k.is_withdrawn.ensures,
-      ← k.is_held.ensures,
+      ← c.is_standing.ensures,
+      ← c.is_withdrawn.ensures,
+      ← c.is_held.ensures,
       c.if-not-is_standing-is_withdrawn.true,
     )
 
 pub returns : goal.returns
 unfolding is_read
 returns c =
-    let k = c in
     λ l.
     rw (
-      ← k.is_standing.ensures,
-      ← k.is_withdrawn.ensures,
-      ← k.is_held.ensures,
+      ← c.is_standing.ensures,
+      ← c.is_withdrawn.ensures,
+      ← c.is_held.ensures,
       c.if-not-is_standing-is_withdrawn.false,
       c.is_in_range.ensures l,
     )

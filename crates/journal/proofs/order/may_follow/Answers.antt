@@ -14,33 +14,28 @@ returns-then-not-is_read c = λ l. rw (← c.is_read.ensures l, c.if-not-is_read
 pub returns-then-is_standing : goal.returns-then-is_standing
 unfolding follows_by
 returns-then-is_standing c =
-    let s = c in
-    let read = s in
     λ l.
     rw (
-      ← read.is_read.ensures l,
-      read.if-not-is_read.false,
-      read.if-held.false,
-      ← s.is_standing.ensures,
+      ← c.is_read.ensures l,
+      c.if-not-is_read.false,
+      c.if-held.false,
+      ← c.is_standing.ensures,
       c.if-is_standing.true,
-      s.is_final.ensures,
+      c.is_final.ensures,
       c.may_stand.ensures,
     )
 
 pub returns : goal.returns
 unfolding follows_by
 returns c =
-    let held = c in
-    let s = held in
-    let read = s in
     λ l.
     rw (
-      ← read.is_read.ensures l,
-      read.if-not-is_read.false,
-      read.if-held.false,
-      ← s.is_standing.ensures,
-      held.if-is_standing.false,
-      s.is_final.ensures,
-      held.is_held.ensures,
+      ← c.is_read.ensures l,
+      c.if-not-is_read.false,
+      c.if-held.false,
+      ← c.is_standing.ensures,
+      c.if-is_standing.false,
+      c.is_final.ensures,
+      c.is_held.ensures,
       c.is_holdable.ensures,
     )

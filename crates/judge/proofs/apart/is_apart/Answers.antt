@@ -10,9 +10,8 @@ returns-then-pass c = sym (c.requires.1.apart c.if-pass.true)
 
 pub are_apart-requires : goal.are_apart-requires
 are_apart-requires c =
-    let start = c in
-    let is = start.requires.1 in
-    record { m_in_bounds = start.requires.0; last_value = run_day _ (pass_run _ _ _ is.same); body_value = days_rise_lem start.args.head _ is.ordered }
+    let is = c.requires.1 in
+    record { body_room = c.requires.0; last_day = run_day _ (pass_run _ _ _ is.same); rising = days_rise_lem c.args.head _ is.ordered }
 
 pub returns : goal.returns
 returns c = c.are_apart.ensures

@@ -40,11 +40,9 @@ returns-then-area-ne0 c = answered c.judge_journal.ensures
 pub returns-then-is_zero_from : goal.returns-then-is_zero_from
 unfolding judged
 returns-then-is_zero_from c =
-    let zero = c in
-    answered (zero_answers c.no_journal-then-is_zero_from.ensures (rw (zero.if-area-ne-AREA_BYTES.false, ← zero.is_zero_from.ensures, c.if-is_zero_from.true)))
+    answered (zero_answers c.no_journal-then-is_zero_from.ensures (rw (c.if-area-ne-AREA_BYTES.false, ← c.is_zero_from.ensures, c.if-is_zero_from.true)))
 
 pub returns : goal.returns
 unfolding judged
 returns c =
-    let zero = c in
-    answered (damaged_answers c.no_journal-2.ensures (rw (zero.if-area-ne-AREA_BYTES.false, ← zero.is_zero_from.ensures, c.if-is_zero_from.false, first_zero _ zero.if-area-ne0.false)))
+    answered (damaged_answers c.no_journal-2.ensures (rw (c.if-area-ne-AREA_BYTES.false, ← c.is_zero_from.ensures, c.if-is_zero_from.false, first_zero _ c.if-area-ne0.false)))

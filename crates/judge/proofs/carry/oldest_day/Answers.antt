@@ -12,15 +12,12 @@ loop-k-init c = (omega arith, refl)
 
 pub returns-then-is_standing : goal.returns-then-is_standing
 returns-then-is_standing c =
-    let stands = c in
-    let read = stands in
-    let old = read in
     oldest_is
     _
-    old.loop-k.k
-    read.entry_at-e.ensures
-    stands.is_standing.ensures
-    old.loop-k.invariant.1
+    c.loop-k.k
+    c.entry_at-e.ensures
+    c.is_standing.ensures
+    c.loop-k.invariant.1
     _
     (omega arith)
     c.if-is_standing.true
@@ -32,11 +29,7 @@ pub loop-k-smaller : goal.loop-k-smaller
 loop-k-smaller c = omega arith
 
 pub loop-k-preserved : goal.loop-k-preserved
-loop-k-preserved c =
-    let stands = c in
-    let read = stands in
-    let old = read in
-    (omega arith, none_yet _ old.loop-k.k read.entry_at-e.ensures stands.is_standing.ensures old.loop-k.invariant.1 c.if-is_standing.false)
+loop-k-preserved c = (omega arith, none_yet _ c.loop-k.k c.entry_at-e.ensures c.is_standing.ensures c.loop-k.invariant.1 c.if-is_standing.false)
 
 pub returns : goal.returns
 unfolding oldest_of day_of

@@ -8,13 +8,11 @@ use Rattle.judge.proofs.Halved.{apart_on, apart_ends}
 use Rattle.judge.proofs.halving.are_apart.Goals as goal
 
 pub note_standing-n-requires : goal.note_standing-n-requires
-note_standing-n-requires c = record { m_in_bounds = c.requires.m_in_bounds; m_in_bounds_2 = omega arith }
+note_standing-n-requires c = record { body_room = c.requires.body_room; places_room = omega arith }
 
 -- each place noted is of an entry of the body
 pub marks_over-marks-requires : goal.marks_over-marks-requires
-marks_over-marks-requires c =
-    let noted = c in
-    λ i h. omega (arith, noted.note_standing-n.ensures.below i h, noted.requires.m_in_bounds)
+marks_over-marks-requires c = λ i h. omega (arith, c.note_standing-n.ensures.below i h, c.requires.body_room)
 
 pub loop-k-init : goal.loop-k-init
 unfolding are_apart every those entries_to
@@ -22,28 +20,23 @@ loop-k-init c = (omega arith, refl)
 
 pub entry_at-requires : goal.entry_at-requires
 entry_at-requires c =
-    let room = c.requires.m_in_bounds in
+    let room = c.requires.body_room in
     omega arith
 
 pub stands_again-requires : goal.stands_again-requires
 stands_again-requires c =
-    let marked = c in
-    let noted = marked in
-    let start = noted in
-    let places = noted.note_standing-n.ensures in
+    let places = c.note_standing-n.ensures in
     record {
-      inside = λ i h. omega (arith, places.below i h, start.requires.m_in_bounds);
-      n_value = rw places.same start.requires.body_value;
-      last_value = rw places.same start.requires.last_value;
-      marks_value = marked.marks_over-marks.ensures;
+      inside = λ i h. omega (arith, places.below i h, c.requires.body_room);
+      rising = rw places.same c.requires.rising;
+      last_day = rw places.same c.requires.last_day;
+      marks_are = c.marks_over-marks.ensures;
     }
 
 pub returns-then-stands_again : goal.returns-then-stands_again
 returns-then-stands_again c =
-    let again = c in
-    let read = again in
-    let places = read.note_standing-n.ensures in
-    sym (apart_ends _ _ _ read.entry_at.ensures (rw places.same at again.stands_again.ensures) _ read.loop-k-test.true c.if-stands_again.true)
+    let places = c.note_standing-n.ensures in
+    sym (apart_ends _ _ _ c.entry_at.ensures (rw places.same at c.stands_again.ensures) _ c.loop-k-test.true c.if-stands_again.true)
 
 pub overflow_add-k : goal.overflow_add-k
 overflow_add-k c = omega arith
@@ -53,11 +46,8 @@ loop-k-smaller c = omega arith
 
 pub loop-k-preserved : goal.loop-k-preserved
 loop-k-preserved c =
-    let again = c in
-    let read = again in
-    let at = read in
-    let places = at.note_standing-n.ensures in
-    (omega arith, apart_on _ _ _ read.entry_at.ensures (rw places.same at again.stands_again.ensures) c.if-stands_again.false at.loop-k.invariant.1)
+    let places = c.note_standing-n.ensures in
+    (omega arith, apart_on _ _ _ c.entry_at.ensures (rw places.same at c.stands_again.ensures) c.if-stands_again.false c.loop-k.invariant.1)
 
 pub returns : goal.returns
 returns c =

@@ -9,7 +9,7 @@ pub returns-then-i-n : goal.returns-then-i-n
 returns-then-i-n c =
     let found = c.first_from-i.ensures in
     let e : c.first_from-i.result ≡ c.args.n = c.if-i-n.true in
-    sym (none_placed _ _ _ _ _ c.requires.n_value (rw e at found.before))
+    sym (none_placed _ _ _ _ _ c.requires.rising (rw e at found.before))
 
 pub entry_at-requires : goal.entry_at-requires
 entry_at-requires c =
@@ -18,8 +18,7 @@ entry_at-requires c =
 
 pub returns : goal.returns
 returns c =
-    let at = c in
-    let found = at.first_from-i.ensures in
-    let some : at.first_from-i.result < at.args.n = omega arith in
+    let found = c.first_from-i.ensures in
+    let some : c.first_from-i.result < c.args.n = omega arith in
     rw c.entry_at.ensures at c.has_read.ensures
-    ∙ sym (one_placed _ _ _ _ _ _ at.requires.n_value some found.before (found.from some))
+    ∙ sym (one_placed _ _ _ _ _ _ c.requires.rising some found.before (found.from some))

@@ -24,8 +24,7 @@ long_at-value-requires c = omega (arith, c.requires c.loop-i.i c.loop-i-test.tru
 
 pub loop-i-preserved : goal.loop-i-preserved
 unfolding placed value_marks entry_at
-loop-i-preserved c =
-    (omega arith, rw (add-one c.loop-i.i, c.mark-marks.ensures, c.long_at-value.ensures, c.loop-i.invariant.1))
+loop-i-preserved c = (omega arith, rw (add-one c.loop-i.i, c.mark-marks.ensures, c.long_at-value.ensures, c.loop-i.invariant.1))
 
 pub returns : goal.returns
 returns c =

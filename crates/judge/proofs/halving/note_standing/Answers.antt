@@ -7,7 +7,7 @@ use Rattle.judge.proofs.halving.note_standing.Goals as goal
 use Rattle.judge.proofs.halving.note_standing.Goals.{then-kind-eq-STANDING, else-kind-eq-STANDING}
 
 pub loop-k-init : goal.loop-k-init
-loop-k-init c = (omega arith, c.requires.m_in_bounds_2, places_none _ _)
+loop-k-init c = (omega arith, c.requires.places_room, places_none _ _)
 
 pub overflow_mul-kind : goal.overflow_mul-kind
 overflow_mul-kind c = omega arith

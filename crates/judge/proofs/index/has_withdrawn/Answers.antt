@@ -7,22 +7,14 @@ use Rattle.judge.proofs.index.has_withdrawn.Goals as goal
 
 pub returns-then-there-eq0 : goal.returns-then-there-eq0
 returns-then-there-eq0 c =
-    let bucket = c in
-    let start = bucket in
-    let none = rw bucket.bucket_of-at.ensures at c.if-there-eq0.true in
-    sym (none_indexed _ _ _ start.requires.2 (empty_clear _ _ _ none))
+    let none = rw c.bucket_of-at.ensures at c.if-there-eq0.true in
+    sym (none_indexed _ _ _ c.requires.2 (empty_clear _ _ _ none))
 
 pub returns-then-m-there : goal.returns-then-m-there
 returns-then-m-there c = c.is_among.ensures
 
 pub returns : goal.returns
 returns c =
-    let gone = c in
-    let read = gone in
-    let few = read in
-    let some = few in
-    let bucket = some in
-    let start = bucket in
-    let at = ap (λ (n : ℕ). get_or start.args.index.now n 0) bucket.bucket_of-at.ensures in
-    rw (c.has_read.ensures, gone.is_withdrawn.ensures, read.entry_at-e.ensures)
-    (one_indexed _ _ _ _ start.requires.2 at some.if-there-eq0.false few.if-m-there.false start.requires.1)
+    let at = ap (λ (n : ℕ). get_or c.args.index.now n 0) c.bucket_of-at.ensures in
+    rw (c.has_read.ensures, c.is_withdrawn.ensures, c.entry_at-e.ensures)
+    (one_indexed _ _ _ _ c.requires.2 at c.if-there-eq0.false c.if-m-there.false c.requires.1)

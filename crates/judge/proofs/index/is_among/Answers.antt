@@ -19,10 +19,7 @@ loop-k-smaller c = omega arith
 
 pub loop-k-preserved : goal.loop-k-preserved
 loop-k-preserved c =
-    let gone = c in
-    let read = gone in
-    let old = read in
-    (omega arith, rw (those_more _ _ is_withdrawn read.entry_at-e.ensures gone.is_withdrawn.ensures, any_kept, c.has_read.ensures, old.loop-k.invariant.1))
+    (omega arith, rw (those_more _ _ is_withdrawn c.entry_at-e.ensures c.is_withdrawn.ensures, any_kept, c.has_read.ensures, c.loop-k.invariant.1))
 
 pub returns : goal.returns
 returns c =

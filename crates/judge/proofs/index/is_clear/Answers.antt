@@ -15,14 +15,12 @@ returns-then-k-there c = λ h. false_is h
 
 pub returns : goal.returns
 returns c =
-    let read = c in
-    let start = read in
-    let there = start.args.there in
+    let there = c.args.there in
     λ h.
     record {
-      sparse = λ z. omega (arith, start.requires.1, read.if-k-there.false);
+      sparse = λ z. omega (arith, c.requires.1, c.if-k-there.false);
       other =
           λ i z w.
           (let at : there - 1 ≡ i = omega arith in
-          rw at at (rw read.entry_at.ensures at (sym c.has_read.ensures ∙ not-true _ h)));
+          rw at at (rw c.entry_at.ensures at (sym c.has_read.ensures ∙ not-true _ h)));
     }

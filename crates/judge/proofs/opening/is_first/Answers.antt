@@ -20,18 +20,14 @@ returns-then-not-is_opening c = λ h. false_is h
 
 pub returns : goal.returns
 returns c =
-    let opening = c in
-    let small = opening in
-    let dated = small in
-    let kind = dated in
-    let e = kind.args.e in
+    let e = c.args.e in
     λ h.
     (let low : e.indicator + 256 * e.flag ≡ 0 = eqb-true _ _ h in
     record {
-      stands = sym kind.is_standing.ensures ∙ kind.if-not-is_standing.false;
-      dated = dated.if-e-eq0.false;
-      small = small.if-limit-e.false;
-      opening = sym opening.is_opening.ensures ∙ opening.if-not-is_opening.false;
+      stands = sym c.is_standing.ensures ∙ c.if-not-is_standing.false;
+      dated = c.if-e-eq0.false;
+      small = c.if-limit-e.false;
+      opening = sym c.is_opening.ensures ∙ c.if-not-is_opening.false;
       indicator = omega arith;
       flag = omega arith;
     })

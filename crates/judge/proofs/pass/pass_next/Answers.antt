@@ -11,8 +11,7 @@ returns-then-run-from c =
 pub pass_entry-requires : goal.pass_entry-requires
 pass_entry-requires c =
     let plain = c.pass_plain-ran.ensures in
-    let start = c in
-    record { most_in_bounds = (start.requires.most_in_bounds.0, omega (arith, start.requires.most_in_bounds.1, c.if-run-from.false), plain.0.run_is); indexed = plain.1 }
+    record { counted = (c.requires.counted.0, omega (arith, c.requires.counted.1, c.if-run-from.false), plain.0.run_is); indexed = plain.1 }
 
 pub returns : goal.returns
 returns c =

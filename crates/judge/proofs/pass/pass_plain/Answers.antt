@@ -10,7 +10,7 @@ use Rattle.judge.proofs.pass.pass_plain.Goals as goal
 
 pub plain_over-plain-requires : goal.plain_over-plain-requires
 plain_over-plain-requires c =
-    let from = c.requires.most_in_bounds in
+    let from = c.requires.counted in
     let some = eqb-false c.args.pass.run.standing 0 (neither c.args.pass.held _ c.if-pass-from.false).1 in
     (from.0, from.1, from.2, some)
 
@@ -18,7 +18,7 @@ pub run_over-run-requires : goal.run_over-run-requires
 run_over-run-requires c =
     let plain = c.plain_over-plain.ensures in
     record {
-      most_in_bounds = (c.requires.most_in_bounds.0, plain.runs.few, plain.runs.run_is, plain.some);
+      counted = (c.requires.counted.0, plain.runs.few, plain.runs.run_is, plain.some);
       indexed = plain.indexed _ c.requires.indexed;
     }
 

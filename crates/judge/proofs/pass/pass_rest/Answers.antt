@@ -10,16 +10,16 @@ use Rattle.judge.proofs.pass.pass_rest.Goals as goal
 
 pub loop-at-init : goal.loop-at-init
 loop-at-init c =
-    let opened = c.requires.most_in_bounds.2 in
-    (refl, opened.few, pass_run _ _ _ (opened.pass _ c.requires.most_in_bounds.1).same, opened.pass, opened.goes, indexed_unwithdrawn _ _ opened.none c.requires.index_len)
+    let opened = c.requires.started.2 in
+    (refl, opened.few, pass_run _ _ _ (opened.pass _ c.requires.started.1).same, opened.pass, opened.goes, indexed_unwithdrawn _ _ opened.none c.requires.index_size)
 
 pub bounds-body-at : goal.bounds-body-at
-bounds-body-at c = omega (arith, c.requires.most_in_bounds.0, c.loop-at-test.true)
+bounds-body-at c = omega (arith, c.requires.started.0, c.loop-at-test.true)
 
 pub returns-then-body-at-eq0 : goal.returns-then-body-at-eq0
 returns-then-body-at-eq0 c =
     let inv = c.loop-at.invariant in
-    let limits = c.requires.most_in_bounds.1 in
+    let limits = c.requires.started.1 in
     let none = rw inv.0 at c.if-body-at-eq0.true in
     (all_passed _ _ _ limits refl (inv.3 c.args.head limits) (count_ends _ _ _ (omega (arith, c.loop-at-test.true, inv.0)) none) inv.4, λ h. inv.5)
 
@@ -27,14 +27,14 @@ pub pass_next-next-requires : goal.pass_next-next-requires
 pass_next-next-requires c =
     let inv = c.loop-at.invariant in
     record {
-      most_in_bounds = (c.requires.most_in_bounds.0, omega (arith, c.loop-at-test.true, inv.0), inv.2);
+      counted = (c.requires.started.0, omega (arith, c.loop-at-test.true, inv.0), inv.2);
       indexed = inv.5;
     }
 
 pub returns-then-not-next : goal.returns-then-not-next
 returns-then-not-next c =
     let inv = c.loop-at.invariant in
-    let limits = c.requires.most_in_bounds.1 in
+    let limits = c.requires.started.1 in
     let on = c.pass_next-next.ensures.0 in
     let some = rw inv.0 at c.if-body-at-eq0.false in
     let goes = sym (on.goes some) ∙ inv.4 in
@@ -57,5 +57,5 @@ loop-at-preserved c =
 pub returns : goal.returns
 returns c =
     let inv = c.loop-at.invariant in
-    let limits = c.requires.most_in_bounds.1 in
+    let limits = c.requires.started.1 in
     (all_passed _ _ _ limits refl (inv.3 c.args.head limits) (count_all _ _ _ (omega (arith, c.loop-at-test.false, inv.0))) inv.4, λ h. inv.5)

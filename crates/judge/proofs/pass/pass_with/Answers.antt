@@ -4,22 +4,17 @@ use Rattle.judge.proofs.Passes.{pass_more, pass_run}
 use Rattle.judge.proofs.pass.pass_with.Goals as goal
 
 pub returns : goal.returns
-returns c =
-    let final = c in
-    let held = final in
-    let counted = held in
-    let s = counted in
-    let follow = s in (
-      refl,
-      λ es h. counted.count-counted.ensures es h,
-      λ head es l h. rw (
-        pass_more head follow.args.pass.apart,
-        ← h,
-        counted.count-counted.ensures es (pass_run head _ es h),
-        follow.may_follow-follows.ensures (rw l.head_is l.limit),
-        l.head_is,
-        s.is_standing-stands.ensures,
-        held.is_held.ensures,
-        final.is_final.ensures,
-      ),
-    )
+returns c = (
+  refl,
+  λ es h. c.count-counted.ensures es h,
+  λ head es l h. rw (
+    pass_more head c.args.pass.apart,
+    ← h,
+    c.count-counted.ensures es (pass_run head _ es h),
+    c.may_follow-follows.ensures (rw l.head_is l.limit),
+    l.head_is,
+    c.is_standing-stands.ensures,
+    c.is_held.ensures,
+    c.is_final.ensures,
+  ),
+)

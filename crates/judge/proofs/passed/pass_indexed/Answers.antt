@@ -13,14 +13,9 @@ returns-then-not-pass c =
 
 pub has_withdrawn-withdrawn-requires : goal.has_withdrawn-withdrawn-requires
 has_withdrawn-withdrawn-requires c =
-    let some = c in
-    let rest = some in
-    let start = rest in
-    let order = not-false _ some.if-not-pass.false in
-    let few = passed_few start.requires.1 rest.pass_rest-pass.ensures.0 order in
-    (omega (arith, few.0, start.requires.0), few.1, rest.pass_rest-pass.ensures.1 order)
+    let order = not-false _ c.if-not-pass.false in
+    let few = passed_few c.requires.1 c.pass_rest-pass.ensures.0 order in
+    (omega (arith, few.0, c.requires.0), few.1, c.pass_rest-pass.ensures.1 order)
 
 pub returns : goal.returns
-returns c =
-    let rest = c in
-    record { passed = rest.pass_rest-pass.ensures.0; withdrawn_is = λ h. c.has_withdrawn-withdrawn.ensures }
+returns c = record { passed = c.pass_rest-pass.ensures.0; withdrawn_is = λ h. c.has_withdrawn-withdrawn.ensures }

@@ -6,11 +6,9 @@ use Rattle.judge.proofs.passed.pass_over.Goals as goal
 
 pub returns-then-is_end : goal.returns-then-is_end
 returns-then-is_end c =
-    let opened = c in
-    let start = opened in
-    let is = opened.open_over-opened.ensures in
+    let is = c.open_over-opened.ensures in
     record {
-      passed = all_passed _ _ _ start.requires.1 refl (is.pass _ start.requires.1) (c.is_end.ensures c.if-is_end.true) is.goes;
+      passed = all_passed _ _ _ c.requires.1 refl (is.pass _ c.requires.1) (c.is_end.ensures c.if-is_end.true) is.goes;
       withdrawn_is = λ h. sym (none_withdrawn _ _ _ is.none);
     }
 

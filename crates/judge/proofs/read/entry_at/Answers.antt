@@ -4,4 +4,4 @@ use Rattle.judge.proofs.read.entry_at.Goals as goal
 
 pub returns : goal.returns
 unfolding entry_at
-returns c = let read = c in rw (read.word_at-day.ensures, read.long_at-value.ensures)
+returns c = rw (c.word_at-day.ensures, c.long_at-value.ensures)

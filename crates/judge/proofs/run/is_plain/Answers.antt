@@ -6,6 +6,4 @@ pub returns-then-not-is_standing : goal.returns-then-not-is_standing
 returns-then-not-is_standing c = λ h. false_is h
 
 pub returns : goal.returns
-returns c =
-    let s = c in
-    λ h. record { stands = sym s.is_standing.ensures ∙ c.if-not-is_standing.false; body = c.is_plain_body.ensures h }
+returns c = λ h. record { stands = sym c.is_standing.ensures ∙ c.if-not-is_standing.false; body = c.is_plain_body.ensures h }

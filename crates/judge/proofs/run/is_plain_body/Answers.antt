@@ -16,16 +16,13 @@ returns-then-not-is_plain_letter c = λ h. false_is h
 
 pub returns : goal.returns
 returns c =
-    let letter = c in
-    let small = letter in
-    let later = small in
-    let e = later.args.e in
+    let e = c.args.e in
     λ h.
     (let low : e.indicator + 256 * e.flag ≤ 2 = leb-true _ _ h in
     record {
-      later = later.if-e-last.false;
-      small = small.if-limits-e.false;
-      letter = letter.is_plain_letter.ensures (letter.if-not-is_plain_letter.false);
+      later = c.if-e-last.false;
+      small = c.if-limits-e.false;
+      letter = c.is_plain_letter.ensures (c.if-not-is_plain_letter.false);
       indicator = omega arith;
       flag = omega arith;
     })

@@ -13,13 +13,13 @@ use Rattle.judge.proofs.run.run_over.Goals.{then-is_standing+else-not-is_clear, 
 pub loop-k-init : goal.loop-k-init
 loop-k-init c =
     let from = c.args.from in
-    (omega arith, (run_small from _ _ c.requires.most_in_bounds.2).1, rw (ran_start from) (runs_none _ _ _ c.requires.most_in_bounds.2 c.requires.most_in_bounds.1), c.requires.indexed)
+    (omega arith, (run_small from _ _ c.requires.counted.2).1, rw (ran_start from) (runs_none _ _ _ c.requires.counted.2 c.requires.counted.1), c.requires.indexed)
 
 pub entry_at-e-requires : goal.entry_at-e-requires
-entry_at-e-requires c = omega (arith, c.requires.most_in_bounds.0, c.loop-k-test.true)
+entry_at-e-requires c = omega (arith, c.requires.counted.0, c.loop-k-test.true)
 
 pub is_clear-requires : goal.is_clear-requires
-is_clear-requires c = (omega (arith, c.requires.most_in_bounds.0, c.loop-k-test.true), omega (arith, c.loop-k-test.true))
+is_clear-requires c = (omega (arith, c.requires.counted.0, c.loop-k-test.true), omega (arith, c.loop-k-test.true))
 
 pub overflow_add-standing : goal.overflow_add-standing
 overflow_add-standing c = omega arith
@@ -43,7 +43,7 @@ loop-k-preserved c =
     let turn = c.loop-k-test.true in
     let plain = c.is_plain_body.ensures c.if-not-is_plain_body.false in
     let there_is = ap (λ (n : ℕ). get_or c.loop-k.index n 0) (sym at) in
-    let some : c.loop-k.standing ≡ 0 → ⊥ = λ z. c.requires.most_in_bounds.3 (omega (arith, inv.0)) in
+    let some : c.loop-k.standing ≡ 0 → ⊥ = λ z. c.requires.counted.3 (omega (arith, inv.0)) in
     elim c.if-is_standing.branch [
       | then-is_standing+else-not-is_clear w ↦
           (let stands = sym c.is_standing.ensures ∙ w.if-is_standing.true in

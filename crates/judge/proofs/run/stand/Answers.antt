@@ -4,6 +4,4 @@ use Rattle.judge.proofs.Runs.{run_more}
 use Rattle.judge.proofs.run.stand.Goals as goal
 
 pub returns : goal.returns
-returns c =
-    let first = c in
-    (refl, λ es s flagged h. rw (run_more, ← h, s, flagged, first.first_with-first.ensures))
+returns c = (refl, λ es s flagged h. rw (run_more, ← h, s, flagged, c.first_with-first.ensures))

@@ -13,8 +13,7 @@ pub returns-then-n-lt10 : goal.returns-then-n-lt10
 returns-then-n-lt10 t c = rw (decimal_one c.args.n c.if-n-lt10.true) (put_one _ c.put_byte.ensures)
 
 pub put_decimal-last-requires : goal.put_decimal-last-requires
-put_decimal-last-requires t c =
-    omega (arith, decimal_longer c.args.n c.if-n-lt10.false c.ranges.n.fits, c.decreases, c.requires.fits)
+put_decimal-last-requires t c = omega (arith, decimal_longer c.args.n c.if-n-lt10.false c.ranges.n.fits, c.decreases, c.requires.fits)
 
 pub overflow_add-result-2 : goal.overflow_add-result-2
 overflow_add-result-2 t c = omega (arith, c.put_decimal-last.ensures.ends, decimal_longer c.args.n c.if-n-lt10.false c.ranges.n.fits, c.requires.fits)

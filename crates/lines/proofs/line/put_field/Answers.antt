@@ -12,9 +12,7 @@ put_decimal-end-requires c = room_first _ _ c.requires
 
 pub overflow_add-result : goal.overflow_add-result
 unfolding field
-overflow_add-result c =
-    let put = c in
-    omega (arith, put.put_decimal-end.ensures.ends, room_more (decimal put.args.n) 32 put.requires)
+overflow_add-result c = omega (arith, c.put_decimal-end.ensures.ends, room_more (decimal c.args.n) 32 c.requires)
 
 pub returns : goal.returns
 unfolding field

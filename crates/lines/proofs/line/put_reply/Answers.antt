@@ -11,11 +11,7 @@ pub put_report-requires : goal.put_report-requires
 put_report-requires c = line_room _ _ (omega arith)
 
 pub returns-in-Answered : goal.returns-in-Answered
-returns-in-Answered c =
-    let put = c in
-    rw put.in-Answered.is put.put_answer.ensures
+returns-in-Answered c = rw c.in-Answered.is c.put_answer.ensures
 
 pub returns-in-Reported : goal.returns-in-Reported
-returns-in-Reported c =
-    let put = c in
-    rw put.in-Reported.is put.put_report.ensures
+returns-in-Reported c = rw c.in-Reported.is c.put_report.ensures

@@ -1,6 +1,5 @@
 -- The two tests in the definition's order.
 use Rattle.calls.specs.Checks.{enrol_checks}
-use borrow.Author.Rules.{rules}
 use Rattle.meter.proofs.enrol.check_enrolment.Goals as goal
 
 pub returns-then-not-is_zero : goal.returns-then-not-is_zero

@@ -13,7 +13,6 @@ use Rattle.register.specs.Head.{put_head}
 use Rattle.calls.specs.declared.call.Reply.TheVariants.{Answered}
 use Rattle.calls.specs.Checks.{enrol_checks}
 use Rattle.calls.specs.Calls.{acted, enrol_in}
-use borrow.Author.Rules.{rules}
 use Rattle.meter.proofs.enrol.enrol_in.Goals as goal
 
 module _ (plate : Head) (area : List ℕ) {head : Head} (is : head ≡ plate) {number : ℕ} (check : number ≡ first_broken (enrol_checks head area)) where
@@ -26,13 +25,7 @@ module _ (plate : Head) (area : List ℕ) {head : Head} (is : head ≡ plate) {n
   enrols h r after = rw (← is, r, after, ← check, h)
 
 pub returns-then-number-ne-ACCEPTED : goal.returns-then-number-ne-ACCEPTED
-returns-then-number-ne-ACCEPTED c =
-    let check = c in
-    stays _ _ check.plate-head.ensures check.check_enrolment-number.ensures c.if-number-ne-ACCEPTED.true c.refuse.ensures
+returns-then-number-ne-ACCEPTED c = stays _ _ c.plate-head.ensures c.check_enrolment-number.ensures c.if-number-ne-ACCEPTED.true c.refuse.ensures
 
 pub returns : goal.returns
-returns c =
-    let put = c in
-    let e = put in
-    let check = e in
-    enrols _ _ check.plate-head.ensures check.check_enrolment-number.ensures e.if-number-ne-ACCEPTED.false c.accept.ensures put.put_head.ensures
+returns c = enrols _ _ c.plate-head.ensures c.check_enrolment-number.ensures c.if-number-ne-ACCEPTED.false c.accept.ensures c.put_head.ensures

@@ -1,5 +1,4 @@
 -- No carry, as the definition has it.
-use borrow.Author.Rules.{rules}
 use Rattle.meter.proofs.enrol.plate.Goals as goal
 
 pub returns : goal.returns

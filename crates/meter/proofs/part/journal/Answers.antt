@@ -19,7 +19,6 @@ use Rattle.calls.proofs.Bools.{by_test}
 use Rattle.place.specs.declared.Located.TheVariants.{At}
 use Rattle.place.specs.Located.{located}
 use Rattle.place.proofs.Placed.{has_area}
-use borrow.Author.Rules.{rules}
 use Rattle.meter.proofs.part.journal.Goals as goal
 
 some : (placed : Bool) (n : ℕ) → cond placed n 0 ≢ 0 → (placed ≡ true) × (cond placed n 0 ≡ n)
@@ -61,7 +60,7 @@ pub returns : goal.returns
 unfolding journal_part
 returns c =
     let p = c.args.place in
-    let size = c.journal_length-size.result-1 in
+    let size = c.journal_length-size.result in
     let same : area_bytes * p + size - area_bytes * p ≡ size = omega arith in
     record {
       bytes_are = rw (same, ← c.journal_length-size.ensures);

@@ -12,7 +12,6 @@ use Rattle.calls.specs.Checks.{report_checks}
 use Rattle.calls.specs.Calls.{report_in}
 use Rattle.calls.proofs.Days.{few_standing, few_flagged}
 use Rattle.meter.proofs.Judged.{zero_number, damaged_number, sound_number}
-use borrow.Author.Rules.{rules}
 use Rattle.meter.proofs.report.report_area.Goals as goal
 
 -- a journal counts no more reads than it has days
@@ -26,27 +25,21 @@ counts_fit area t c =
 
 pub report_of-requires : goal.report_of-requires
 report_of-requires c =
-    let d = c in
-    let sound = sound_number (λ j. []) _ d.requires (sym d.judge_area-judgement.ensures.0.found_is ∙ c.in-Sound.is) in
+    let sound = sound_number (λ j. []) _ c.requires (sym c.judge_area-judgement.ensures.0.found_is ∙ c.in-Sound.is) in
     let fit = counts_fit _ _ sound.0 in
     (omega (arith, fit.0), omega (arith, fit.1))
 
 pub returns-in-Zero : goal.returns-in-Zero
 unfolding report_in report_checks
-returns-in-Zero c =
-    let d = c in
-    rw (c.refuse_report.ensures, zero_number (λ j. []) _ d.requires (sym d.judge_area-judgement.ensures.0.found_is ∙ c.in-Zero.is))
+returns-in-Zero c = rw (c.refuse_report.ensures, zero_number (λ j. []) _ c.requires (sym c.judge_area-judgement.ensures.0.found_is ∙ c.in-Zero.is))
 
 pub returns-in-Damaged : goal.returns-in-Damaged
 unfolding report_in report_checks
 returns-in-Damaged c =
-    let d = c in
-    rw (c.refuse_report-in-Damaged.ensures, damaged_number (λ j. []) _ d.requires (sym d.judge_area-judgement.ensures.0.found_is ∙ c.in-Damaged.is))
+    rw (c.refuse_report-in-Damaged.ensures, damaged_number (λ j. []) _ c.requires (sym c.judge_area-judgement.ensures.0.found_is ∙ c.in-Damaged.is))
 
 pub returns-in-Sound : goal.returns-in-Sound
 unfolding report_in report_checks
 returns-in-Sound c =
-    let found = c in
-    let d = found in
-    let sound = sound_number (λ j. []) _ d.requires (sym d.judge_area-judgement.ensures.0.found_is ∙ found.in-Sound.is) in
+    let sound = sound_number (λ j. []) _ c.requires (sym c.judge_area-judgement.ensures.0.found_is ∙ c.in-Sound.is) in
     rw (sound.1, c.report_of.ensures _ sound.0.summary)

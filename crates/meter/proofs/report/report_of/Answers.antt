@@ -5,7 +5,6 @@ use mir.Syntax.{w64}
 use mir.ValLaws.{to_z-of_z}
 use Rattle.journal.specs.Total.{report_of}
 use Rattle.reads.proofs.Totals.{standing_counted, flagged_counted}
-use borrow.Author.Rules.{rules}
 use Rattle.meter.proofs.report.report_of.Goals as goal
 
 pub returns : goal.returns

@@ -17,7 +17,6 @@ use Rattle.judge.specs.declared.area.Summary.{Summary}
 use Rattle.journal.specs.Journal.{Journal, standing}
 use Rattle.journal.specs.Total.{flagged_in, first_in, total_of}
 use Rattle.judge.specs.Inner.Judged.{counts_of, value_of, summary_of}
-use borrow.Author.Rules.{rules}
 use Rattle.meter.proofs.report.total_in.Goals as goal
 
 total_last : (head : Head) (ss : List Entry) → (length ss ≡ 0 → ⊥) → total_of head ss ≡ advance_of head.dials (value_of (slot_at ss 0)) (flagged_in head ss) (first_in head ss)
@@ -31,11 +30,11 @@ total_none head [] none = refl
 total_none head (s ∷ ss) none = absurd (omega arith)
 
 module _ (j : Journal) {t : Summary} (e : t ≡ summary_of j) where
-  counted : t.counts-1.standing ≡ length (standing j.entries)
+  counted : t.counts.standing ≡ length (standing j.entries)
   unfolding summary_of counts_of
-  counted = ap (λ (u : Summary). u.counts-1.standing) e
+  counted = ap (λ (u : Summary). u.counts.standing) e
 
-  from_last : (flags first : ℕ) → flags ≡ flagged_in j.head (standing j.entries) → first ≡ first_in j.head (standing j.entries) → (t.counts-1.standing ≡ 0 → ⊥) → total_of j.head (standing j.entries) ≡ advance_of j.head.dials t.last flags first
+  from_last : (flags first : ℕ) → flags ≡ flagged_in j.head (standing j.entries) → first ≡ first_in j.head (standing j.entries) → (t.counts.standing ≡ 0 → ⊥) → total_of j.head (standing j.entries) ≡ advance_of j.head.dials t.last flags first
   unfolding summary_of
   from_last flags first f v some = rw (e, f, v) (total_last j.head (standing j.entries) (λ z. some (counted ∙ z)))
 
@@ -43,7 +42,7 @@ module _ (j : Journal) {t : Summary} (e : t ≡ summary_of j) where
   unfolding summary_of
   limit_is = ap (λ (u : Summary). u.limit) e
 
-  from_none : t.counts-1.standing ≡ 0 → total_of j.head (standing j.entries) ≡ pos 0
+  from_none : t.counts.standing ≡ 0 → total_of j.head (standing j.entries) ≡ pos 0
   from_none none = total_none j.head (standing j.entries) (sym counted ∙ none)
 
 pub returns-then-counts-eq0 : goal.returns-then-counts-eq0
@@ -51,5 +50,4 @@ returns-then-counts-eq0 c = λ j e f. sym (from_none j e c.if-counts-eq0.true)
 
 pub returns : goal.returns
 returns c = λ j e f.
-    let first = c in
-    to_z-of_z w64 _ (sfits_of c.total.type_inv) ∙ c.total.ensures _ (limit_is j e) ∙ sym (from_last j e _ _ f (first.first.ensures j e) first.if-counts-eq0.false)
+    to_z-of_z w64 _ (sfits_of c.total.type_inv) ∙ c.total.ensures _ (limit_is j e) ∙ sym (from_last j e _ _ f (c.first.ensures j e) c.if-counts-eq0.false)

@@ -51,7 +51,7 @@ unfolding withdraw_rules is_not_standing
 returns_2 c = rw (standing_is c.before, c.if-has_standing.false)
 
 -- the read is the last: whether it is the oldest too
-counted_alone : (j : Journal) (t : Summary) → t ≡ summary_of j → j.head-1.carried && eqb (length (standing j.entries)) 1 ≡ t.head-1.carried && eqb t.counts-1.standing 1
+counted_alone : (j : Journal) (t : Summary) → t ≡ summary_of j → j.head.carried && eqb (length (standing j.entries)) 1 ≡ t.head.carried && eqb t.counts.standing 1
 unfolding summary_of counts_of
 counted_alone j t e = rw e
 
@@ -65,7 +65,7 @@ module _ (c : tie.After-struct_known-2-1) where
   last : is_not_last (start there).args.day (start there).args.value (slot_at reads 0) ≡ false
   last = last_is there ∙ c.before.before.before.before.if-is_not_last.false
 
-  oldest : is_oldest_kept (start there).args.day (start there).args.value (journal_of (start there).args.area.now).head-1 (oldest_of reads) ≡ (start there).args.t.head-1.carried && eqb (start there).args.t.counts-1.standing 1
+  oldest : is_oldest_kept (start there).args.day (start there).args.value (journal_of (start there).args.area.now).head (oldest_of reads) ≡ (start there).args.t.head.carried && eqb (start there).args.t.counts.standing 1
   oldest = alone_oldest _ _ _ (start there).requires.sound last ∙ counted_alone _ _ (start there).requires.summary
 
 returns_3 : tie.Need-returns-then-head-counts

@@ -24,7 +24,6 @@ use Rattle.meter.specs.declared.withdraw.Decided.TheVariants.{Refused, Taken}
 use Rattle.meter.specs.Inner.Withdrawal.{withdraw_decided}
 use Rattle.meter.proofs.Judged.{accepted_sound}
 use Rattle.meter.proofs.Held.{held_counted}
-use borrow.Author.Rules.{rules}
 use Rattle.meter.proofs.withdraw.withdraw_in.Goals as goal
 
 -- by whether the checks accept
@@ -64,35 +63,26 @@ module _ (day value : ℕ) (area : List ℕ) where
           summary = accepts.1;
         }
 
-    withdraws : {r0 r1 : Slot} → r0 ≡ slot_at (standing (journal_of area).entries) 0 → r1 ≡ slot_at (standing (journal_of area).entries) 1 → {r : Answer} → r ≡ withdrawn_answer t.head-1.dials r0 r1 → {held : Bool} → held ≡ is_there (held_of (journal_of area).entries) → {newest end : ℕ} → newest ≡ offset_after t.head-1 t.counts-1.newest → end ≡ offset_after t.head-1 t.counts-1.kept → {after : List ℕ} → after ≡ withdrawn_bytes newest end held area → acted (Answered r) after ≡ withdraw_in day value area
+    withdraws : {r0 r1 : Slot} → r0 ≡ slot_at (standing (journal_of area).entries) 0 → r1 ≡ slot_at (standing (journal_of area).entries) 1 → {r : Answer} → r ≡ withdrawn_answer t.head.dials r0 r1 → {held : Bool} → held ≡ is_there (held_of (journal_of area).entries) → {newest end : ℕ} → newest ≡ offset_after t.head t.counts.newest → end ≡ offset_after t.head t.counts.kept → {after : List ℕ} → after ≡ withdrawn_bytes newest end held area → acted (Answered r) after ≡ withdraw_in day value area
     unfolding withdraw_in summary_of counts_of entry_offset journal_of
     withdraws last second r held newest end after = rw (r, last, second, after, held, newest, end, accepts.0, accepts.1)
 
 pub returns-in-Refused : goal.returns-in-Refused
-returns-in-Refused c =
-    let d = c in
-    stays _ _ _ (sym d.decide_withdrawal.ensures.decision_is ∙ c.in-Refused.is) c.refuse.ensures
+returns-in-Refused c = stays _ _ _ (sym c.decide_withdrawal.ensures.decision_is ∙ c.in-Refused.is) c.refuse.ensures
 
 pub returns-in-Taken : goal.returns-in-Taken
 returns-in-Taken c =
-    let m = c in
-    let answer = m in
-    let end = answer in
-    let second = end in
-    let last = second in
-    let taken = last in
-    let d = taken in
-    let decision = sym d.decide_withdrawal.ensures.decision_is ∙ taken.in-Taken.is in
-    let is = counted _ _ _ decision d.requires in
+    let decision = sym c.decide_withdrawal.ensures.decision_is ∙ c.in-Taken.is in
+    let is = counted _ _ _ decision c.requires in
     withdraws
     _
     _
     _
     decision
-    (last.last-r0.ensures is)
-    (second.second-r1.ensures is)
-    answer.withdrawn_answer-answer.ensures
+    (c.last-r0.ensures is)
+    (c.second-r1.ensures is)
+    c.withdrawn_answer-answer.ensures
     (held_counted _ is)
-    end.offset_after-newest.ensures
-    end.offset_after-end.ensures
-    m.mark_withdrawn.ensures
+    c.offset_after-newest.ensures
+    c.offset_after-end.ensures
+    c.mark_withdrawn.ensures

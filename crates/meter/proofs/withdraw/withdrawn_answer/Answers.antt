@@ -4,7 +4,6 @@ use borrow.Author.Rules.{sfits_of}
 use mir.Syntax.{w64}
 use mir.ValLaws.{to_z-of_z}
 use Rattle.calls.specs.Calls.{withdrawn_answer}
-use borrow.Author.Rules.{rules}
 use Rattle.meter.proofs.withdraw.withdrawn_answer.Goals as goal
 
 pub returns-in-Read : goal.returns-in-Read

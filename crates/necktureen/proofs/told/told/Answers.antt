@@ -8,11 +8,8 @@ use Rattle.necktureen.proofs.told.told.Goals as goal
 pub returns-in-Known : goal.returns-in-Known
 unfolding told_of told_kind
 returns-in-Known c =
-    let call = c in
-    let form = call in
-    let start = form in
-    rw (← form.kind_of.ensures, form.in-Known.is, ← call.told_call.ensures)
-    (rw (to_z-of_z w64 start.args.advance start.ranges.advance) at c.changed.ensures)
+    rw (← c.kind_of.ensures, c.in-Known.is, ← c.told_call.ensures)
+    (rw (to_z-of_z w64 c.args.advance c.ranges.advance) at c.changed.ensures)
 
 pub returns-in-Unknown : goal.returns-in-Unknown
 unfolding told_of told_kind

@@ -4,27 +4,19 @@ use borrow.Author.Rules.{rules}
 use Rattle.playing.proofs.apply.apply.Goals as goal
 
 pub returns-in-Enrol : goal.returns-in-Enrol
-returns-in-Enrol c =
-    let called = c in
-    rw called.in-Enrol.is called.enrol.ensures
+returns-in-Enrol c = rw c.in-Enrol.is c.enrol.ensures
 
 pub returns-in-Submit : goal.returns-in-Submit
-returns-in-Submit c =
-    let called = c in
-    rw called.in-Submit.is called.submit.ensures
+returns-in-Submit c = rw c.in-Submit.is c.submit.ensures
 
 pub returns-in-Withdraw : goal.returns-in-Withdraw
-returns-in-Withdraw c =
-    let called = c in
-    rw called.in-Withdraw.is called.withdraw.ensures
+returns-in-Withdraw c = rw c.in-Withdraw.is c.withdraw.ensures
 
 pub returns-in-Report : goal.returns-in-Report
 returns-in-Report c = rw c.in-Report.is c.report.ensures
 
 pub returns-in-Fold : goal.returns-in-Fold
-returns-in-Fold c =
-    let called = c in
-    rw called.in-Fold.is called.fold.ensures
+returns-in-Fold c = rw c.in-Fold.is c.fold.ensures
 
 pub returns-in-Trial : goal.returns-in-Trial
 returns-in-Trial c = rw c.in-Trial.is (is_trial_lem _ _ _ c.trial.ensures)

@@ -12,24 +12,10 @@ pub overflow_cast-end-in-Fault : goal.overflow_cast-end-in-Fault
 overflow_cast-end-in-Fault c = omega arith
 
 pub returns-in-Found : goal.returns-in-Found
-returns-in-Found c =
-    let put = c in
-    let applied = put in
-    let found = applied in
-    let next = found in
-    let start = next in
-    called _ _ start.requires (sym found.in-Found.is ∙ next.next_at.ensures) applied.apply-reply.ensures put.put_reply.ensures
+returns-in-Found c = called _ _ c.requires (sym c.in-Found.is ∙ c.next_at.ensures) c.apply-reply.ensures c.put_reply.ensures
 
 pub returns-in-End : goal.returns-in-End
-returns-in-End c =
-    let next = c in
-    let start = next in
-    finished _ _ start.requires (sym c.in-End.is ∙ next.next_at.ensures)
+returns-in-End c = finished _ _ c.requires (sym c.in-End.is ∙ c.next_at.ensures)
 
 pub returns-in-Fault : goal.returns-in-Fault
-returns-in-Fault c =
-    let put = c in
-    let fault = put in
-    let next = fault in
-    let start = next in
-    faulted _ _ start.requires (sym fault.in-Fault.is ∙ next.next_at.ensures) put.put_fault.ensures
+returns-in-Fault c = faulted _ _ c.requires (sym c.in-Fault.is ∙ c.next_at.ensures) c.put_fault.ensures

@@ -5,6 +5,4 @@ use Rattle.playing.proofs.turn.put_fault.Goals as goal
 
 pub returns : goal.returns
 unfolding next_number
-returns c =
-    let put = c in
-    rw put.refuse.ensures at put.put_reply.ensures
+returns c = rw c.refuse.ensures at c.put_reply.ensures

@@ -7,28 +7,19 @@ use borrow.Author.Rules.{rules}
 use Rattle.playing.proofs.whole.play.Goals as goal
 
 pub returns-then-sheet-gt-MOST_BYTES : goal.returns-then-sheet-gt-MOST_BYTES
-returns-then-sheet-gt-MOST_BYTES c =
-    let put = c in
-    over_long put.if-sheet-gt-MOST_BYTES.true put.put_fault.ensures
+returns-then-sheet-gt-MOST_BYTES c = over_long c.if-sheet-gt-MOST_BYTES.true c.put_fault.ensures
 
 pub loop-at-init : goal.loop-at-init
 loop-at-init c = begun _ _ _ c.if-sheet-gt-MOST_BYTES.false
 
 pub play_next-p-requires : goal.play_next-p-requires
-play_next-p-requires c =
-    let turn = c in
-    record { short = omega arith; more = turn.loop-at-test.true; few = turn.loop-at.invariant.few }
+play_next-p-requires c = record { short = omega arith; more = c.loop-at-test.true; few = c.loop-at.invariant.few }
 
 pub loop-at-smaller : goal.loop-at-smaller
-loop-at-smaller c =
-    let played = c in
-    omega (arith, played.play_next-p.ensures.on)
+loop-at-smaller c = omega (arith, c.play_next-p.ensures.on)
 
 pub loop-at-preserved : goal.loop-at-preserved
-loop-at-preserved c =
-    let played = c in
-    let turn = played in
-    turned _ _ _ turn.loop-at.invariant turn.loop-at-test.true played.play_next-p.ensures played.play_next-p.auto.1.0 played.play_next-p.auto.1.1.0
+loop-at-preserved c = turned _ _ _ c.loop-at.invariant c.loop-at-test.true c.play_next-p.ensures c.play_next-p.auto.register c.play_next-p.auto.out
 
 pub shape_of-register : goal.shape_of-register
 shape_of-register c = c.loop-at.invariant.same_register

@@ -5,12 +5,7 @@ use Rattle.reads.proofs.Counted.{rises}
 use Rattle.reads.proofs.found.has_standing.Goals as goal
 
 pub returns-in-Read : goal.returns-in-Read
-returns-in-Read c =
-    let e = c in
-    let read = e in
-    λ is. read_on_day _ _ _ (rises _ _ is) (sym e.in-Read.is ∙ read.read_on.ensures is)
+returns-in-Read c = λ is. read_on_day _ _ _ (rises _ _ is) (sym c.in-Read.is ∙ c.read_on.ensures is)
 
 pub returns-in-Empty : goal.returns-in-Empty
-returns-in-Empty c =
-    let read = c in
-    λ is. none_on_day _ _ _ (rises _ _ is) (sym c.in-Empty.is ∙ read.read_on.ensures is)
+returns-in-Empty c = λ is. none_on_day _ _ _ (rises _ _ is) (sym c.in-Empty.is ∙ c.read_on.ensures is)

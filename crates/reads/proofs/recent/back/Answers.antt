@@ -27,10 +27,9 @@ bounds-body-at c = omega arith
 pub returns-then-body-at-eq-STANDING : goal.returns-then-body-at-eq-STANDING
 unfolding is_standing entry_at
 returns-then-body-at-eq-STANDING c =
-    let old = c in
-    let k = old.loop-k.k in
+    let k = c.loop-k.k in
     let kind = eq-eqb _ _ c.if-body-at-eq-STANDING.true in
-    record { fewer = old.loop-k.invariant.0; same = old.loop-k.invariant.1; stands = λ j h. (let e : k - 1 ≡ j = omega arith in rw e at kind) }
+    record { fewer = c.loop-k.invariant.0; same = c.loop-k.invariant.1; stands = λ j h. (let e : k - 1 ≡ j = omega arith in rw e at kind) }
 
 pub overflow_sub-k : goal.overflow_sub-k
 overflow_sub-k c = omega arith
@@ -41,13 +40,10 @@ loop-k-smaller c = omega arith
 pub loop-k-preserved : goal.loop-k-preserved
 unfolding is_standing entry_at entries_to those
 loop-k-preserved c =
-    let old = c in
-    let k = old.loop-k.k in
+    let k = c.loop-k.k in
     let e : k ≡ suc (k - 1) = omega arith in
     let kind = ne_eqb _ _ c.if-body-at-eq-STANDING.false in
-    (omega arith, rw (← old.loop-k.invariant.1, last_entry _ e) (rw kind))
+    (omega arith, rw (← c.loop-k.invariant.1, last_entry _ e) (rw kind))
 
 pub returns : goal.returns
-returns c =
-    let old = c in
-    record { fewer = old.loop-k.invariant.0; same = old.loop-k.invariant.1; stands = λ j h. absurd (omega arith) }
+returns c = record { fewer = c.loop-k.invariant.0; same = c.loop-k.invariant.1; stands = λ j h. absurd (omega arith) }

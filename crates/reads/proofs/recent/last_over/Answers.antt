@@ -13,4 +13,4 @@ entry_at-requires c = omega (arith, c.back-b.ensures.fewer)
 
 pub returns : goal.returns
 unfolding slot_at
-returns c = let left = c in rw (one_left _ _ _ left.back-b.ensures left.if-b-eq0.false, c.entry_at.ensures)
+returns c = rw (one_left _ _ _ c.back-b.ensures c.if-b-eq0.false, c.entry_at.ensures)

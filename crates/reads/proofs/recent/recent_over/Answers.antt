@@ -6,9 +6,7 @@ use Rattle.reads.proofs.recent.recent_over.Goals as goal
 
 pub returns-then-b-eq0 : goal.returns-then-b-eq0
 unfolding recent_of slot_at
-returns-then-b-eq0 c =
-    let b = c in
-    rw (none_left _ _ _ b.back-b.ensures c.if-b-eq0.true, b.entry_at.ensures)
+returns-then-b-eq0 c = rw (none_left _ _ _ c.back-b.ensures c.if-b-eq0.true, c.entry_at.ensures)
 
 pub entry_at-requires-2 : goal.entry_at-requires-2
 entry_at-requires-2 c = omega (arith, c.back-b.ensures.fewer)
@@ -19,12 +17,9 @@ last_over-third-requires c = omega (arith, c.back-b.ensures.fewer)
 pub returns : goal.returns
 unfolding recent_of slot_at
 returns c =
-    let two = c in
-    let left = two in
-    let b = left in
     rw (
-      one_left _ _ _ b.back-b.ensures left.if-b-eq0.false,
-      b.entry_at.ensures,
-      two.entry_at-2.ensures,
+      one_left _ _ _ c.back-b.ensures c.if-b-eq0.false,
+      c.entry_at.ensures,
+      c.entry_at-2.ensures,
       c.last_over-third.ensures,
     )

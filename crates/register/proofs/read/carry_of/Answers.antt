@@ -11,5 +11,4 @@ returns-then-byte_at-ne-CARRY c = rw (← c.byte_at.ensures, ne_eqb _ kind_carry
 pub returns : goal.returns
 unfolding is_carry_at carry_at
 returns c =
-    let kind = c in
-    rw (← kind.byte_at.ensures, eq-eqb _ kind_carry kind.if-byte_at-ne-CARRY.false, c.long_at-first.ensures, c.word_at-folded.ensures, c.word_at-flagged.ensures)
+    rw (← c.byte_at.ensures, eq-eqb _ kind_carry c.if-byte_at-ne-CARRY.false, c.long_at-first.ensures, c.word_at-folded.ensures, c.word_at-flagged.ensures)

@@ -12,10 +12,7 @@ returns-in_default-second c = rw (c.in-Read.is, c.in_default-second.is)
 
 pub returns-in_default-third : goal.returns-in_default-third
 unfolding is_rollover
-returns-in_default-third c =
-    let r1 = c in
-    let r0 = r1 in
-    rw (r0.in-Read.is, r1.in-Read-second.is, c.in_default-third.is)
+returns-in_default-third c = rw (c.in-Read.is, c.in-Read-second.is, c.in_default-third.is)
 
 pub is_like_rate-requires : goal.is_like_rate-requires
 is_like_rate-requires c = c.power-turn.ensures
@@ -32,13 +29,10 @@ is_small_advance-requires-2 c = c.power-turn.ensures
 pub returns : goal.returns
 unfolding is_rollover
 returns c =
-    let r2 = c in
-    let r1 = r2 in
-    let r0 = r1 in
     rw (
-      r0.in-Read.is,
-      r1.in-Read-second.is,
-      r2.in-Read-third.is,
+      c.in-Read.is,
+      c.in-Read-second.is,
+      c.in-Read-third.is,
       c.is_near_turn.ensures,
       c.is_like_rate.ensures,
       c.is_small_turn.ensures,

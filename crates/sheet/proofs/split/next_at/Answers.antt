@@ -10,18 +10,13 @@ returns-then-sheet-at c = past _ _ c.if-sheet-at.true
 
 pub returns-then-sheet-next : goal.returns-then-sheet-next
 returns-then-sheet-next c =
-    let read = c in
-    let known = sym c.in-Known.is ∙ read.kind_of.ensures in
-    cut _ _ read.if-sheet-at.false known c.body_bytes.ensures (omega (arith, c.if-sheet-next.true))
+    let known = sym c.in-Known.is ∙ c.kind_of.ensures in
+    cut _ _ c.if-sheet-at.false known c.body_bytes.ensures (omega (arith, c.if-sheet-next.true))
 
 pub returns-else-sheet-next : goal.returns-else-sheet-next
 returns-else-sheet-next c =
-    let body = c in
-    let read = body in
-    let known = sym body.in-Known.is ∙ read.kind_of.ensures in
-    rw c.call_at.ensures (whole _ _ read.if-sheet-at.false known body.body_bytes.ensures (omega (arith, c.if-sheet-next.false)))
+    let known = sym c.in-Known.is ∙ c.kind_of.ensures in
+    rw c.call_at.ensures (whole _ _ c.if-sheet-at.false known c.body_bytes.ensures (omega (arith, c.if-sheet-next.false)))
 
 pub returns-in-Unknown : goal.returns-in-Unknown
-returns-in-Unknown c =
-    let read = c in
-    unknown _ _ read.if-sheet-at.false (sym c.in-Unknown.is ∙ read.kind_of.ensures)
+returns-in-Unknown c = unknown _ _ c.if-sheet-at.false (sym c.in-Unknown.is ∙ c.kind_of.ensures)

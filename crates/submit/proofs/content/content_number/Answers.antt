@@ -5,18 +5,17 @@ use Rattle.journal.specs.Journal.{Journal}
 use Rattle.judge.specs.declared.area.Summary.{Summary}
 use Rattle.judge.specs.Inner.Judged.{summary_of}
 use Rattle.calls.specs.Checks.{content_rules}
-use borrow.Author.Rules.{rules}
 use Rattle.submit.proofs.content.content_number.Goals as goal
 
 -- the limit is 10^n, and the head is the journal's
 
-limit_is : {t : Summary} (j : Journal) → t ≡ summary_of j → t.limit ≡ ten_to j.head-1.dials
+limit_is : {t : Summary} (j : Journal) → t ≡ summary_of j → t.limit ≡ ten_to j.head.dials
 unfolding summary_of
 limit_is j h = ap (λ (t : Summary). t.limit) h
 
-head_is : {t : Summary} (j : Journal) → t ≡ summary_of j → t.head-1 ≡ j.head-1
+head_is : {t : Summary} (j : Journal) → t ≡ summary_of j → t.head ≡ j.head
 unfolding summary_of
-head_is j h = ap (λ (t : Summary). t.head-1) h
+head_is j h = ap (λ (t : Summary). t.head) h
 
 pub returns-then-is_missing : goal.returns-then-is_missing
 unfolding content_rules
@@ -25,11 +24,10 @@ returns-then-is_missing c = λ j counted withdrawn. rw (← c.is_missing.ensures
 pub returns-then-is_bad_content : goal.returns-then-is_bad_content
 unfolding content_rules
 returns-then-is_bad_content c =
-    let e₁ = c in
     λ j counted withdrawn.
     rw (
-      ← e₁.is_missing.ensures,
-      e₁.if-is_missing.false,
+      ← c.is_missing.ensures,
+      c.if-is_missing.false,
       ← c.is_bad_content.ensures _ (limit_is j counted),
       c.if-is_bad_content.true,
     )
@@ -37,14 +35,12 @@ returns-then-is_bad_content c =
 pub returns-then-is_other_type : goal.returns-then-is_other_type
 unfolding content_rules
 returns-then-is_other_type c =
-    let e₂ = c in
-    let e₁ = e₂ in
     λ j counted withdrawn.
     rw (
-      ← e₁.is_missing.ensures,
-      e₁.if-is_missing.false,
-      ← e₂.is_bad_content.ensures _ (limit_is j counted),
-      e₂.if-is_bad_content.false,
+      ← c.is_missing.ensures,
+      c.if-is_missing.false,
+      ← c.is_bad_content.ensures _ (limit_is j counted),
+      c.if-is_bad_content.false,
       ← head_is j counted,
       ← c.is_other_type.ensures,
       c.if-is_other_type.true,
@@ -53,18 +49,15 @@ returns-then-is_other_type c =
 pub returns-then-is_bad_date : goal.returns-then-is_bad_date
 unfolding content_rules
 returns-then-is_bad_date c =
-    let e₃ = c in
-    let e₂ = e₃ in
-    let e₁ = e₂ in
     λ j counted withdrawn.
     rw (
-      ← e₁.is_missing.ensures,
-      e₁.if-is_missing.false,
-      ← e₂.is_bad_content.ensures _ (limit_is j counted),
-      e₂.if-is_bad_content.false,
+      ← c.is_missing.ensures,
+      c.if-is_missing.false,
+      ← c.is_bad_content.ensures _ (limit_is j counted),
+      c.if-is_bad_content.false,
       ← head_is j counted,
-      ← e₃.is_other_type.ensures,
-      e₃.if-is_other_type.false,
+      ← c.is_other_type.ensures,
+      c.if-is_other_type.false,
       ← c.is_bad_date.ensures,
       c.if-is_bad_date.true,
     )
@@ -72,21 +65,17 @@ returns-then-is_bad_date c =
 pub returns-then-withdrawn : goal.returns-then-withdrawn
 unfolding content_rules
 returns-then-withdrawn c =
-    let e₄ = c in
-    let e₃ = e₄ in
-    let e₂ = e₃ in
-    let e₁ = e₂ in
     λ j counted withdrawn.
     rw (
-      ← e₁.is_missing.ensures,
-      e₁.if-is_missing.false,
-      ← e₂.is_bad_content.ensures _ (limit_is j counted),
-      e₂.if-is_bad_content.false,
+      ← c.is_missing.ensures,
+      c.if-is_missing.false,
+      ← c.is_bad_content.ensures _ (limit_is j counted),
+      c.if-is_bad_content.false,
       ← head_is j counted,
-      ← e₃.is_other_type.ensures,
-      e₃.if-is_other_type.false,
-      ← e₄.is_bad_date.ensures,
-      e₄.if-is_bad_date.false,
+      ← c.is_other_type.ensures,
+      c.if-is_other_type.false,
+      ← c.is_bad_date.ensures,
+      c.if-is_bad_date.false,
       ← withdrawn,
       c.if-withdrawn.true,
     )
@@ -94,21 +83,17 @@ returns-then-withdrawn c =
 pub returns : goal.returns
 unfolding content_rules
 returns c =
-    let e₄ = c in
-    let e₃ = e₄ in
-    let e₂ = e₃ in
-    let e₁ = e₂ in
     λ j counted withdrawn.
     rw (
-      ← e₁.is_missing.ensures,
-      e₁.if-is_missing.false,
-      ← e₂.is_bad_content.ensures _ (limit_is j counted),
-      e₂.if-is_bad_content.false,
+      ← c.is_missing.ensures,
+      c.if-is_missing.false,
+      ← c.is_bad_content.ensures _ (limit_is j counted),
+      c.if-is_bad_content.false,
       ← head_is j counted,
-      ← e₃.is_other_type.ensures,
-      e₃.if-is_other_type.false,
-      ← e₄.is_bad_date.ensures,
-      e₄.if-is_bad_date.false,
+      ← c.is_other_type.ensures,
+      c.if-is_other_type.false,
+      ← c.is_bad_date.ensures,
+      c.if-is_bad_date.false,
       ← withdrawn,
       c.if-withdrawn.false,
     )

@@ -1,6 +1,5 @@
 -- The code is the definition, test for test; the limit is looked up already.
 use Rattle.calls.specs.Checks.{is_bad_content}
-use borrow.Author.Rules.{rules}
 use Rattle.submit.proofs.content.is_bad_content.Goals as goal
 
 pub returns : goal.returns

@@ -1,6 +1,5 @@
 -- The code is the definition.
 use Rattle.calls.specs.Checks.{is_other_type}
-use borrow.Author.Rules.{rules}
 use Rattle.submit.proofs.content.is_other_type.Goals as goal
 
 pub returns : goal.returns

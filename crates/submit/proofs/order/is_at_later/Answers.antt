@@ -2,7 +2,6 @@
 use Rattle.terms.specs.Letter.{is_final}
 use Rattle.calls.specs.Checks.{is_at_later}
 use Rattle.submit.proofs.Ordered.{some_counted, count, ended}
-use borrow.Author.Rules.{rules}
 use Rattle.submit.proofs.order.is_at_later.Goals as goal
 
 pub returns : goal.returns

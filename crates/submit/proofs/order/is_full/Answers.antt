@@ -1,6 +1,5 @@
 -- The number of entries kept and the most that may be are the definition's.
 use Rattle.calls.specs.Checks.{is_full}
-use borrow.Author.Rules.{rules}
 use Rattle.submit.proofs.order.is_full.Goals as goal
 
 pub returns : goal.returns

@@ -1,7 +1,6 @@
 -- The match is the definition's.
 use Rattle.journal.specs.Sound.{has_read}
 use Rattle.calls.specs.Checks.{is_held_equal}
-use borrow.Author.Rules.{rules}
 use Rattle.submit.proofs.order.is_held_equal.Goals as goal
 
 pub returns-in-Read : goal.returns-in-Read

@@ -1,6 +1,5 @@
 -- The code is the definition, test for test.
 use Rattle.calls.specs.Checks.{is_opening_indicated}
-use borrow.Author.Rules.{rules}
 use Rattle.submit.proofs.order.is_opening_indicated.Goals as goal
 
 pub returns : goal.returns

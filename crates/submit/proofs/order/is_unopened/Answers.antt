@@ -1,7 +1,6 @@
 -- A read stands if any is counted.
 use Rattle.calls.specs.Checks.{is_unopened}
 use Rattle.submit.proofs.Ordered.{none_counted, count}
-use borrow.Author.Rules.{rules}
 use Rattle.submit.proofs.order.is_unopened.Goals as goal
 
 pub returns : goal.returns

@@ -1,7 +1,6 @@
 -- The code is the definition, test for test.
 use Rattle.terms.specs.Letter.{is_final}
 use Rattle.calls.specs.Checks.{is_at_on_day}
-use borrow.Author.Rules.{rules}
 use Rattle.submit.proofs.same_day.is_at_on_day.Goals as goal
 
 pub returns : goal.returns

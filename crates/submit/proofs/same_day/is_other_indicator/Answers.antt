@@ -1,6 +1,5 @@
 -- The match is the definition's.
 use Rattle.calls.specs.Checks.{is_other_indicator}
-use borrow.Author.Rules.{rules}
 use Rattle.submit.proofs.same_day.is_other_indicator.Goals as goal
 
 pub returns-in-Read : goal.returns-in-Read

@@ -1,6 +1,5 @@
 -- The match is the definition's.
 use Rattle.calls.specs.Checks.{is_repeat}
-use borrow.Author.Rules.{rules}
 use Rattle.submit.proofs.same_day.is_repeat.Goals as goal
 
 pub returns-in-Read : goal.returns-in-Read

@@ -1,7 +1,6 @@
 -- The tests of the number are the definition's, in its order.
 use borrow.Author.Tests.{ne_eqb}
 use Rattle.submit.specs.Inner.Decision.{stored_by}
-use borrow.Author.Rules.{rules}
 use Rattle.submit.proofs.submit.store.Goals as goal
 
 pub returns-then-d-eq-ACCEPTED : goal.returns-then-d-eq-ACCEPTED

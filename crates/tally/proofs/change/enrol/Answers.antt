@@ -15,6 +15,4 @@ returns-then-tally_number-ne-NO_METER c =
 
 pub returns : goal.returns
 unfolding made_to may_be tally_for enrolled
-returns c =
-    let n = c in
-    c.made_to.ensures ∙ rw (number_zero n.args.t (sym n.tally_number.ensures ∙ c.if-tally_number-ne-NO_METER.false))
+returns c = c.made_to.ensures ∙ rw (number_zero c.args.t (sym c.tally_number.ensures ∙ c.if-tally_number-ne-NO_METER.false))

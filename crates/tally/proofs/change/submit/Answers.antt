@@ -11,8 +11,7 @@ use Rattle.tally.proofs.change.submit.Goals.{then-t-eq0, else-t-eq0}
 use Rattle.tally.proofs.change.submit.Goals as goal
 
 pub returns-then-tally_number-ne-ACCEPTED : goal.returns-then-tally_number-ne-ACCEPTED
-returns-then-tally_number-ne-ACCEPTED c =
-    rw (ne_eqb _ accepted (λ e. c.if-tally_number-ne-ACCEPTED.true (c.tally_number.ensures ∙ e)))
+returns-then-tally_number-ne-ACCEPTED c = rw (ne_eqb _ accepted (λ e. c.if-tally_number-ne-ACCEPTED.true (c.tally_number.ensures ∙ e)))
 
 pub overflow_add-next : goal.overflow_add-next
 overflow_add-next c =

@@ -32,8 +32,7 @@ moved : (c : After-last_without) →
 moved c = sym (rw (to_z-of_z w64 c.args.advance c.ranges.advance) at c.last_without.ensures)
 
 pub returns-then-tally_number-ne-ACCEPTED : goal.returns-then-tally_number-ne-ACCEPTED
-returns-then-tally_number-ne-ACCEPTED c =
-    rw (ne_eqb _ accepted (λ e. c.if-tally_number-ne-ACCEPTED.true (c.tally_number.ensures ∙ e)))
+returns-then-tally_number-ne-ACCEPTED c = rw (ne_eqb _ accepted (λ e. c.if-tally_number-ne-ACCEPTED.true (c.tally_number.ensures ∙ e)))
 
 pub returns-then-t-flag : goal.returns-then-t-flag
 returns-then-t-flag c =

@@ -9,12 +9,8 @@ returns-then-is_zero c = rw (sym c.is_zero.ensures ∙ c.if-is_zero.true)
 
 pub returns-then-is_broken : goal.returns-then-is_broken
 unfolding tally_number
-returns-then-is_broken c =
-    let e = c in
-    rw (sym e.is_zero.ensures ∙ e.if-is_zero.false, sym c.is_broken.ensures ∙ c.if-is_broken.true)
+returns-then-is_broken c = rw (sym c.is_zero.ensures ∙ c.if-is_zero.false, sym c.is_broken.ensures ∙ c.if-is_broken.true)
 
 pub returns : goal.returns
 unfolding tally_number
-returns c =
-    let e = c in
-    rw (sym e.is_zero.ensures ∙ e.if-is_zero.false, sym c.is_broken.ensures ∙ c.if-is_broken.false)
+returns c = rw (sym c.is_zero.ensures ∙ c.if-is_zero.false, sym c.is_broken.ensures ∙ c.if-is_broken.false)

@@ -4,14 +4,6 @@ use Rattle.zeros.proofs.lanes.half_at.Goals as goal
 
 pub returns : goal.returns
 returns c =
-    let e₇ = c in
-    let e₃ = e₇ in
-    let e₅ = e₃ in
-    let e₁ = e₅ in
-    let e₆ = e₁ in
-    let e₂ = e₆ in
-    let e₄ = e₂ in
-    let e₀ = e₄ in
     block_adds
     _
     _
@@ -21,14 +13,14 @@ returns c =
     _
     _
     _
-    e₀.args.lanes
+    c.args.lanes
     (block_zero
     _
-    e₀.eight_at.ensures
-    e₁.eight_at-5.ensures
-    e₂.eight_at-3.ensures
-    e₃.eight_at-7.ensures
-    e₄.eight_at-2.ensures
-    e₅.eight_at-6.ensures
-    e₆.eight_at-4.ensures
-    e₇.eight_at-8.ensures)
+    c.eight_at.ensures
+    c.eight_at-5.ensures
+    c.eight_at-3.ensures
+    c.eight_at-7.ensures
+    c.eight_at-2.ensures
+    c.eight_at-6.ensures
+    c.eight_at-4.ensures
+    c.eight_at-8.ensures)

@@ -1,0 +1,21 @@
+-- The place is checked as the step has it, and what is lent is the area.
+use mathlib.Core.Path.{sym, ◌∙◌}
+use native.Mathlib.Omega.{arith}
+use Rattle.calls.specs.declared.call.Call.TheVariants.{Enrol}
+use Rattle.calls.specs.Calls.{act, place_of, refusal_of}
+use Rattle.place.proofs.Placed.{has_area, refuses, writes}
+use Rattle.meter.proofs.enrol.enrol.Goals as goal
+
+pub overflow_add-end : goal.overflow_add-end
+overflow_add-end c = omega (arith, has_area _ _ (sym c.locate.ensures.found_is ∙ c.in-At.is))
+
+pub slice_bounds-enrol_in-end : goal.slice_bounds-enrol_in-end
+slice_bounds-enrol_in-end c = omega (arith, has_area _ _ (sym c.locate.ensures.found_is ∙ c.in-At.is))
+
+pub returns-in-Refused : goal.returns-in-Refused
+unfolding place_of refusal_of
+returns-in-Refused c = rw c.refuse.ensures (refuses (Enrol c.args.place c.args.profile c.args.dials c.args.capacity) _ (sym c.locate.ensures.found_is ∙ c.in-Refused.is))
+
+pub returns-in-At : goal.returns-in-At
+unfolding place_of act
+returns-in-At c = writes (Enrol c.args.place c.args.profile c.args.dials c.args.capacity) _ (sym c.locate.ensures.found_is ∙ c.in-At.is) c.enrol_in.ensures
