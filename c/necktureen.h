@@ -1,6 +1,6 @@
-/* Necktureen, a validator of water meter reads, for C99 and C++. Link with libnecktureen.a, which
- * `rt staticlib necktureen` writes to target/staticlib: code for x86-64 that needs no library but the C library's memcpy
- * and memset.
+/* Necktureen, a validator of water meter reads, for C99 and C++. Link with libnecktureen.a, which `rt lib` writes to
+ * crates/necktureen/out when it is run in crates/necktureen: code for x86-64 that needs no library but the C library's
+ * memcpy and memset.
  *
  * A register is NECKTUREEN_REGISTER_BYTES bytes that the caller lends, all zero at first; place p's meter has the
  * NECKTUREEN_AREA_BYTES bytes from NECKTUREEN_AREA_BYTES * p on. A function that takes a register takes it as a pointer

@@ -1,13 +1,13 @@
-// Links the proved library that `rt staticlib necktureen` writes, or says what is missing.
+// Links the proved library that `rt lib` writes in crates/necktureen, or says what is missing.
 use std::path::Path;
 use std::process::exit;
 
 fn main() {
-    let folder = Path::new(env!("CARGO_MANIFEST_DIR")).join("../target/staticlib");
+    let folder = Path::new(env!("CARGO_MANIFEST_DIR")).join("../crates/necktureen/out");
     let library = folder.join("libnecktureen.a");
     println!("cargo:rerun-if-changed={}", library.display());
     if !library.exists() {
-        stop(&format!("{} is not there: run `rt staticlib necktureen` in the repository first", library.display()));
+        stop(&format!("{} is not there: run `rt lib` in crates/necktureen first", library.display()));
     }
     let processor = std::env::var("CARGO_CFG_TARGET_ARCH").unwrap_or_default();
     if processor != "x86_64" {

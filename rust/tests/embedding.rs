@@ -103,7 +103,7 @@ fn a_register_is_kept_in_a_file() {
 /// The names of the functions that the compiled library has.
 fn symbols() -> BTreeSet<String> {
     let mut nm = Command::new("nm");
-    nm.args(["--defined-only", "--extern-only", "--format=posix", "target/staticlib/libnecktureen.a"]);
+    nm.args(["--defined-only", "--extern-only", "--format=posix", "crates/necktureen/out/libnecktureen.a"]);
     let lines = as_text(&run(&mut nm, &[]).stdout);
     lines.lines().filter_map(|line| Some(line.split_once(" T ")?.0.to_string())).collect()
 }

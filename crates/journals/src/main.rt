@@ -2,49 +2,71 @@
 // enrolled, with its place and, in hexadecimal, the bytes of its part of the register.
 #![tactic(auto)]
 
-use libc::{STDIN_FILENO, STDOUT_FILENO};
+ghost use Rattle.std.specs.Prelude.{IfSome, OnOk};
+ghost use Rattle.std.specs.Io.KnownBytes.{Appends};
+ghost use Rattle.calls.specs.Play.{register_after, zero_register};
+ghost use Rattle.sheet.specs.Sheet.{split_of};
+ghost use Rattle.journals.specs.Text.{byte_text, bytes_text, line_of, journals_text};
+
+use input::read_sheet;
 use meter::part::journal;
 use playing::day::zero_register;
 use playing::whole::play;
 use register::area::Layout;
 use sheet::size::room_for_sheet;
+use std::io::{self, Read, Write};
 
-fn print_byte(byte: u8) {
-    io::print_hex(STDOUT_FILENO, byte as u64, 2);
+// How many bytes there is room for of the lines of the calls.
+const LINES_BYTES: usize = 4096;
+
+fn print_byte<W: Write>(byte: u8, output: &mut W) -> io::Result<()>
+    ensures { OnOk result (Appends (W.contents output.old) (W.contents output.new) (byte_text byte)) }
+{
+    write!(output, "{byte:02x}")
 }
 
-fn print_bytes(bytes: &[u8]) {
-    let mut i = 0;
-    while i < bytes.len() {
-        print_byte(bytes[i]);
-        i += 1;
+fn print_bytes<W: Write>(bytes: &[u8], output: &mut W) -> io::Result<()>
+    ensures { OnOk result (Appends (W.contents output.old) (W.contents output.new) (bytes_text bytes.now)) }
+{
+    for byte in bytes {
+        print_byte(*byte, output)?;
     }
+    Ok(())
 }
 
-fn print_journal(place: u64, part: &[u8]) {
+fn print_journal<W: Write>(place: u64, part: &[u8], output: &mut W) -> io::Result<()>
+    ensures { OnOk result (Appends (W.contents output.old) (W.contents output.new) (line_of place part.now)) }
+{
     if part.len() == 0 {
-        return;
+        return Ok(());
     }
-    io::print_decimal(STDOUT_FILENO, place);
-    io::write_all(STDOUT_FILENO, b" ");
-    print_bytes(part);
-    io::write_all(STDOUT_FILENO, b"\n");
+    write!(output, "{place} ")?;
+    print_bytes(part, output)?;
+    writeln!(output)
 }
 
-fn print_journals(register: &[u8]) {
-    let mut place = 0;
-    while place < Layout::AREAS {
-        print_journal(place as u64, journal(register, place));
-        place += 1;
+fn print_journals<W: Write>(register: &[u8], output: &mut W) -> io::Result<()>
+    ensures { OnOk result (Appends (W.contents output.old) (W.contents output.new) (journals_text register.now)) }
+{
+    for place in 0..Layout::AREAS {
+        print_journal(place as u64, journal(register, place), output)?;
     }
+    Ok(())
 }
 
-fn main() {
+// Reads a sheet, plays it and prints the journals that it leaves.
+fn run<R: Read, W: Write>(input: &mut R, output: &mut W) -> io::Result<()>
+    ensures { OnOk result (IfSome (R.remaining input.old) (λ sheet. Appends (W.contents output.old) (W.contents output.new) (journals_text (register_after (split_of sheet).calls zero_register)))) }
+{
     let mut sheet = room_for_sheet();
     let mut register = zero_register();
     // The lines of the calls, which are not printed.
-    let mut lines = io::buffer();
-    let length = io::read_full(STDIN_FILENO, &mut sheet);
+    let mut lines = [0; LINES_BYTES];
+    let length = read_sheet(input, &mut sheet)?;
     play(&sheet[..length], &mut register, &mut lines);
-    print_journals(&register);
+    print_journals(&register, output)
+}
+
+fn main(rt: HostRuntime) -> io::Result<()> {
+    run(&mut rt.stdin(), &mut rt.stdout())
 }

@@ -10,7 +10,7 @@ pub fn compiled(name: &str, code: &str) -> Option<PathBuf> {
     let program = std::env::temp_dir().join(format!("necktureen-{name}-{}", std::process::id()));
     let flags = ["-std=c99", "-Wall", "-Wextra", "-Wpedantic", "-Wconversion", "-Werror", "-O2", "-Ic", "-x", "c", "-"];
     let mut gcc = Command::new("gcc");
-    gcc.args(flags).args(["-x", "none", "target/staticlib/libnecktureen.a", "-o"]).arg(&program);
+    gcc.args(flags).args(["-x", "none", "crates/necktureen/out/libnecktureen.a", "-o"]).arg(&program);
     run(&mut gcc, code.as_bytes()).status.success().then_some(program)
 }
 

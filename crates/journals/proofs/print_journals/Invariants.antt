@@ -1,11 +1,8 @@
--- One place after another.
-use Prim.Native.Nat.{◌-◌}
-use native.Mathlib.Omega.{arith}
-use borrow.Author.Rules.{rules}
+-- What was written so far is the lines of the places so far.
+use Rattle.std.specs.Io.KnownBytes.{Appends}
+use Rattle.journals.specs.Text.{lines_below}
 use Rattle.journals.proofs.print_journals.Given as goal
 
 abbrev pub invariant-loop-place : goal.invariant-loop-place
-invariant-loop-place l = Unit
-
-abbrev pub decreases-loop-place : goal.decreases-loop-place
-decreases-loop-place l = 64 - l.place
+invariant-loop-place g l =
+    Appends (g.W.Write.contents l.initial.output) (g.W.Write.contents l.output) (lines_below l.place l.register)

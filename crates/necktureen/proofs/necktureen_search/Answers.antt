@@ -1,5 +1,4 @@
 use mathlib.Core.Path.{ap, ◌∙◌}
-use borrow.Author.Rules.{rules}
 use Rattle.necktureen.specs.Search.{fields_of}
 use Rattle.necktureen.proofs.necktureen_search.Goals as goal
 

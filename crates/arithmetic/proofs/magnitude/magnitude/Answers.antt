@@ -1,6 +1,5 @@
 -- One more than a negative number, turned, is its magnitude less one, for the least number too; any other number is its magnitude.
 use native.Mathlib.Omega.{arith}
-use borrow.Author.Rules.{rules}
 use Rattle.arithmetic.proofs.Negated.{more_fits, turned_fits, turned_reads, mag_more, natural_casts}
 use Rattle.arithmetic.proofs.magnitude.magnitude.Goals as goal
 

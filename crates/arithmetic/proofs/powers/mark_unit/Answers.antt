@@ -3,7 +3,6 @@ use mathlib.Core.Path.{◌≡◌, sym, ap, ◌∙◌}
 use Prim.Native.Nat.{◌-◌}
 use native.Mathlib.Omega.{arith}
 use Rattle.arithmetic.specs.Powers.{ten_to}
-use borrow.Author.Rules.{rules}
 use Rattle.arithmetic.proofs.powers.mark_unit.Goals as goal
 
 pub returns-then-n-lt2 : goal.returns-then-n-lt2

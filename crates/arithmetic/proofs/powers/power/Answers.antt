@@ -9,7 +9,6 @@ use lib.ListN.{get_or}
 use Rattle.arithmetic.specs.Powers.{ten_to}
 use Rattle.arithmetic.proofs.Table.{at}
 use Rattle.arithmetic.proofs.Laws.{in_table, past_table, ten_at_most}
-use borrow.Author.Rules.{rules}
 use Rattle.arithmetic.proofs.powers.power.Goals as goal
 
 powers : List ℕ
@@ -18,11 +17,7 @@ powers = 1 ∷ 10 ∷ 100 ∷ 1000 ∷ 10000 ∷ 100000 ∷ 1000000 ∷ 10000000
 right : ℕ → ℕ → Bool
 right k x = eqb x (10 ^ k)
 
--- LEFT array_read_result : tie.Need-array-read-result
--- array_read_result c = search rules
-
 -- what the table has at n
-
 entry : (n : ℕ) → n < 10 → get_or powers n 0 ≡ ten_to n
 unfolding powers right
 entry n h = eqb→eq (get_or powers n 0) (10 ^ n) (at right powers tt n h) ∙ sym (in_table h)

@@ -4,7 +4,6 @@ use mathlib.Core.Bool.{true}
 use Prim.Native.Nat.{◌+◌, ◌-◌}
 use native.Mathlib.Omega.{arith}
 use borrow.Author.Rules.{rules}
-use borrow.Author.Tests.{not-true, not-false}
 use Rattle.calendar.specs.declared.date.Date.{Date}
 use Rattle.calendar.specs.Date.{is_in_calendar}
 use Rattle.calendar.proofs.Order.{InCalendar, calendar_true}

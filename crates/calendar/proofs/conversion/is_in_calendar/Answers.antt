@@ -1,5 +1,4 @@
 -- The code is the definition.
-use borrow.Author.Rules.{rules}
 use Rattle.calendar.specs.Month.{month_length}
 use Rattle.calendar.specs.Date.{is_in_calendar}
 use Rattle.calendar.proofs.conversion.is_in_calendar.Goals as goal

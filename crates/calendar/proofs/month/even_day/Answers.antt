@@ -1,7 +1,6 @@
 -- The code is the definition.
 use Prim.Native.Nat.{◌+◌}
 use native.Mathlib.Omega.{arith}
-use borrow.Author.Rules.{rules}
 use borrow.Author.Tests.{lt-ltb, le-ltb}
 use Rattle.calendar.specs.Inner.Placed.{even_day}
 use Rattle.calendar.proofs.Months.{lacking_bounds}

@@ -1,10 +1,6 @@
 -- The table's rule is one test over all 180 years.
-use borrow.Author.Rules.{rules}
 use Rattle.calendar.proofs.Years.{year_starts, year_start_at}
 use Rattle.calendar.proofs.starts.year_start.Goals as goal
-
--- LEFT array_read_result : tie.Need-array-read-result
--- array_read_result c = search rules
 
 pub returns : goal.returns
 unfolding year_starts

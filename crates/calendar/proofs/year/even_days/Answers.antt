@@ -1,5 +1,4 @@
 -- The code is the definition.
-use borrow.Author.Rules.{rules}
 use borrow.Author.Tests.{lt-ltb, le-ltb}
 use Rattle.calendar.specs.Inner.Placed.{start_of2101, even_days}
 use Rattle.calendar.proofs.year.even_days.Goals as goal

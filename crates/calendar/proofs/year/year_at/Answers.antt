@@ -1,6 +1,5 @@
 -- The division finds each year by its first day and its last, and so by every day between.
 use native.Mathlib.Omega.{arith}
-use borrow.Author.Rules.{rules}
 use Rattle.calendar.proofs.Years.{year_placed}
 use Rattle.calendar.proofs.year.year_at.Goals as goal
 

@@ -1,5 +1,4 @@
 -- By the leap test.
-use borrow.Author.Rules.{rules}
 use Rattle.calendar.specs.Year.{year_length}
 use Rattle.calendar.proofs.year.year_length.Goals as goal
 

@@ -1,7 +1,6 @@
 -- A day's date is in the year that the division finds.
 use mathlib.Core.Path.{sym}
 use native.Mathlib.Omega.{arith}
-use borrow.Author.Rules.{rules}
 use Rattle.calendar.specs.Date.{date_of}
 use Rattle.calendar.proofs.Dates.{year_at_date}
 use Rattle.calendar.proofs.year.year_of.Goals as goal

@@ -42,7 +42,6 @@ unfolding fold_in HasZeros
 fold_zeros area = by_test (eqb (first_broken (fold_checks area)) accepted) (λ h. rw h (refl, refl)) (λ h. rw h (refl, refl))
 
 -- one field that is not 0 is enough
-
 refusal_zeros : (number : ℕ) → HasZeros (Answered (refusal number))
 unfolding HasZeros
 refusal_zeros number = (refl, refl)

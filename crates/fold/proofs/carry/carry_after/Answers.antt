@@ -22,7 +22,6 @@ use Rattle.journal.proofs.Bools.{neither}
 use Rattle.calls.proofs.Days.{few_standing, few_flagged}
 use Rattle.fold.specs.Inner.Flags.{flags_in}
 use Rattle.fold.proofs.Flags.{flags_apart}
-use borrow.Author.Rules.{rules}
 use Rattle.fold.proofs.carry.carry_after.Goals as goal
 
 module _ (area : List ℕ) (t : Summary) (c : Counted area t) where

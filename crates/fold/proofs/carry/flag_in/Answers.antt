@@ -2,7 +2,6 @@
 use borrow.Author.Tests.{ne_eqb}
 use Rattle.journal.specs.Journal.{is_flagged}
 use Rattle.fold.specs.Inner.Flags.{flag_in}
-use borrow.Author.Rules.{rules}
 use Rattle.fold.proofs.carry.flag_in.Goals as goal
 
 pub returns-then-e-eq1 : goal.returns-then-e-eq1

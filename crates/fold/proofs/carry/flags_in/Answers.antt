@@ -2,7 +2,6 @@
 use native.Mathlib.Omega.{arith}
 use Rattle.fold.specs.Inner.Flags.{flags_in}
 use Rattle.fold.proofs.Flags.{flag_few}
-use borrow.Author.Rules.{rules}
 use Rattle.fold.proofs.carry.flags_in.Goals as goal
 
 pub overflow_add-result : goal.overflow_add-result

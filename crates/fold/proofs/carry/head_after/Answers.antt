@@ -8,7 +8,6 @@ use Rattle.journal.specs.Journal.{journal_of}
 use Rattle.judge.specs.declared.area.Summary.{Summary}
 use Rattle.judge.specs.Inner.Judged.{summary_of, Counted}
 use Rattle.calls.specs.Fold.{carry_after, head_after}
-use borrow.Author.Rules.{rules}
 use Rattle.fold.proofs.carry.head_after.Goals as goal
 
 head_is : (area : List ℕ) (t : Summary) → Counted area t → {carry : Carry} → carry ≡ carry_after (journal_of area) → record { profile = t.head.profile; dials = t.head.dials; capacity = t.head.capacity; carried = true; carry = carry } ≡ head_after (journal_of area)

@@ -1,5 +1,5 @@
 -- The place is checked as the step has it, and what is lent is the area.
-use mathlib.Core.Path.{◌≡◌, sym, ◌∙◌}
+use mathlib.Core.Path.{sym, ◌∙◌}
 use native.Mathlib.Omega.{arith}
 use Rattle.calls.specs.declared.call.Call.TheVariants.{Fold}
 use Rattle.calls.specs.Calls.{act, place_of, refusal_of}

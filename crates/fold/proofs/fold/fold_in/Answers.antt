@@ -21,11 +21,9 @@ use Rattle.calls.specs.Fold.{folded_journal}
 use Rattle.calls.proofs.Acted.{can_fold}
 use Rattle.fold.specs.declared.decide.Decided.TheVariants.{Refused, Taken}
 use Rattle.fold.specs.Inner.Decision.{fold_decided}
-use borrow.Author.Rules.{rules}
 use Rattle.fold.proofs.fold.fold_in.Goals as goal
 
 -- by whether the checks accept
-
 module _ (s : Summary) (n : ℕ) where
   refused_if : (accepts : Bool) {number : ℕ} → cond accepts (Taken s) (Refused n) ≡ Refused number → (accepts ≡ false) × (n ≡ number)
   refused_if true e = (cc, cc)

@@ -1,11 +1,8 @@
 -- What is kept is the definition's over the entries passed.
-use mathlib.Core.Path.{◌≡◌, refl}
+use mathlib.Core.Path.{◌≡◌}
 use Prim.Native.Nat.{◌-◌, ◌≤◌}
-use native.Mathlib.Omega.{arith}
-use borrow.Author.Rules.{rules}
-use Rattle.terms.specs.Entry.{those, slot_at, recent_of}
+use Rattle.terms.specs.Entry.{recent_of}
 use Rattle.journal.specs.Journal.{entries_to, standing}
-use Rattle.journal.proofs.Entries.{one_more}
 use Rattle.fold.proofs.kept.kept_of.Given as goal
 
 abbrev pub invariant-loop-k : goal.invariant-loop-k

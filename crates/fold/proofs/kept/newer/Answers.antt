@@ -2,13 +2,11 @@
 use mathlib.Core.Path.{◌≡◌, sym, ◌∙◌}
 use mathlib.Core.Bool.{true, false}
 use mathlib.Core.List.{List, ◌∷◌}
-use borrow.Author.Tests.{not-true, not-false}
 use Rattle.terms.specs.declared.entry.Entry.{Entry}
 use Rattle.terms.specs.declared.entry.Recent.{Recent}
 use Rattle.terms.specs.declared.entry.Slot.TheVariants.{Read}
 use Rattle.terms.specs.Entry.{is_standing, those, slot_at, recent_of}
 use Rattle.journal.specs.Journal.{standing}
-use borrow.Author.Rules.{rules}
 use Rattle.fold.proofs.kept.newer.Goals as goal
 
 module _ (e : Entry) {kept : Recent} where

@@ -1,13 +1,9 @@
 -- What was put is what stays of the entries passed.
 use mathlib.Core.Path.{◌≡◌, refl, ◌∙◌}
-use Prim.Native.Nat.{◌-◌, ◌≤◌}
 use native.Mathlib.Omega.{arith}
-use borrow.Author.Rules.{rules}
-use lib.ListN.{length}
 use Rattle.terms.specs.Entry.{those}
 use Rattle.journal.specs.Journal.{entries_to, put_entries}
 use Rattle.journal.proofs.Entries.{one_more}
-use Rattle.calls.specs.Fold.{stays}
 use Rattle.fold.proofs.left.put_left.Goals as goal
 
 pub loop-k-init : goal.loop-k-init

@@ -4,7 +4,6 @@ use mathlib.Core.Bool.{Bool, true, false}
 use mathlib.Core.List.{List}
 use Prim.Native.Nat.{ℕ, ◌+◌}
 use native.Mathlib.Omega.{arith}
-use borrow.Author.Tests.{not-true, not-false}
 use lib.ListN.{length}
 use Rattle.terms.specs.declared.entry.Entry.{Entry}
 use Rattle.terms.specs.Entry.{keep_if}
@@ -12,7 +11,6 @@ use Rattle.register.specs.declared.head.Head.{Head}
 use Rattle.register.specs.Entries.{put_entry}
 use Rattle.register.specs.Head.{offset_after}
 use Rattle.journal.specs.Journal.{put_entries}
-use borrow.Author.Rules.{rules}
 use Rattle.fold.proofs.left.put_next.Goals as goal
 
 module _ (head : Head) (e : Entry) {b : Bool} {count : ℕ} where

@@ -1,6 +1,5 @@
 -- Each test is the definition's.
 use Rattle.calls.specs.Fold.{stays}
-use borrow.Author.Rules.{rules}
 use Rattle.fold.proofs.left.stays.Goals as goal
 
 pub returns : goal.returns

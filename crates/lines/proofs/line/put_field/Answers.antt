@@ -3,7 +3,6 @@ use native.Mathlib.Omega.{arith}
 use Rattle.lines.specs.Line.{field}
 use Rattle.lines.specs.Decimal.{decimal}
 use Rattle.lines.proofs.Pasted.{put_more, room_first, room_more}
-use borrow.Author.Rules.{rules}
 use Rattle.lines.proofs.line.put_field.Goals as goal
 
 pub put_decimal-end-requires : goal.put_decimal-end-requires

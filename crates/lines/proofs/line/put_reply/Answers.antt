@@ -1,7 +1,6 @@
 -- The line of a reply is that of the answer or the report that it holds, and there is room for it after any position of 32 bits.
 use native.Mathlib.Omega.{arith}
 use Rattle.lines.proofs.Lengths.{line_room}
-use borrow.Author.Rules.{rules}
 use Rattle.lines.proofs.line.put_reply.Goals as goal
 
 pub put_answer-requires : goal.put_answer-requires

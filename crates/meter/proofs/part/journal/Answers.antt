@@ -26,7 +26,6 @@ some true n h = (refl, refl)
 some false n h = absurd (h refl)
 
 -- a journal lies within its area
-
 length_at_most : (area : List ℕ) → length_in area ≤ area_bytes
 unfolding length_in entry_offset offset_after
 length_at_most area =

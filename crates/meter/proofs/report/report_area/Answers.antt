@@ -15,7 +15,6 @@ use Rattle.meter.proofs.Judged.{zero_number, damaged_number, sound_number}
 use Rattle.meter.proofs.report.report_area.Goals as goal
 
 -- a journal counts no more reads than it has days
-
 counts_fit : (area : List ℕ) (t : Summary) → Counted area t → (t.head.carry.folded + t.counts.standing ≤ t.day) × (t.head.carry.flagged + t.counts.flagged ≤ t.day)
 counts_fit area t c =
     let j = journal_of area in

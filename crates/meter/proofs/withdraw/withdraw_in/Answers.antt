@@ -27,7 +27,6 @@ use Rattle.meter.proofs.Held.{held_counted}
 use Rattle.meter.proofs.withdraw.withdraw_in.Goals as goal
 
 -- by whether the checks accept
-
 module _ (s : Summary) (n : ℕ) where
   refused_if : (accepts : Bool) {number : ℕ} → cond accepts (Taken s) (Refused n) ≡ Refused number → (accepts ≡ false) × (n ≡ number)
   refused_if true e = (cc, cc)

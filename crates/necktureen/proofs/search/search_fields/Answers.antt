@@ -1,4 +1,3 @@
-use borrow.Author.Rules.{rules}
 use Rattle.necktureen.specs.Search.{fields_with}
 use Rattle.necktureen.proofs.search.search_fields.Goals as goal
 

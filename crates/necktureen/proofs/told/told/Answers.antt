@@ -2,7 +2,6 @@
 use mir.Syntax.{w64}
 use mir.ValLaws.{to_z-of_z}
 use Rattle.necktureen.specs.Told.{told_kind, told_of}
-use borrow.Author.Rules.{rules}
 use Rattle.necktureen.proofs.told.told.Goals as goal
 
 pub returns-in-Known : goal.returns-in-Known

@@ -1,6 +1,5 @@
 -- Each form has its call.
 use Rattle.necktureen.specs.Told.{told_call}
-use borrow.Author.Rules.{rules}
 use Rattle.necktureen.proofs.told.told_call.Goals as goal
 
 pub returns-in-Enrol : goal.returns-in-Enrol

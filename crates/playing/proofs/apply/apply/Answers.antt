@@ -1,6 +1,5 @@
 -- Each kind of call has its function, whose contract is this one's at that kind.
 use Rattle.calls.proofs.Tried.{is_trial_lem}
-use borrow.Author.Rules.{rules}
 use Rattle.playing.proofs.apply.apply.Goals as goal
 
 pub returns-in-Enrol : goal.returns-in-Enrol

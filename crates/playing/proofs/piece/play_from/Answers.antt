@@ -4,7 +4,7 @@ use native.Mathlib.Omega.{arith}
 use borrow.Author.Tests.{ltb-true, leb-true}
 use lib.ListN.{length}
 use Rattle.calls.proofs.Bools.{both}
-use Rattle.playing.proofs.Pieces.{Going, set_out, gone_on, stopped, none_left, too_long}
+use Rattle.playing.proofs.Pieces.{set_out, gone_on, stopped, none_left, too_long}
 use Rattle.playing.proofs.piece.play_from.Goals as goal
 
 pub returns-then-sheet-start : goal.returns-then-sheet-start

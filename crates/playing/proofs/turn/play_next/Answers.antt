@@ -2,7 +2,6 @@
 use mathlib.Core.Path.{sym, ◌∙◌}
 use native.Mathlib.Omega.{arith}
 use Rattle.playing.proofs.Turns.{called, finished, faulted}
-use borrow.Author.Rules.{rules}
 use Rattle.playing.proofs.turn.play_next.Goals as goal
 
 pub overflow_cast-end : goal.overflow_cast-end

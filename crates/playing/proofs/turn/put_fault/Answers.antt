@@ -1,6 +1,5 @@
 -- The line of a refusal with the sheet's number.
 use Rattle.sheet.specs.Sheet.{next_number}
-use borrow.Author.Rules.{rules}
 use Rattle.playing.proofs.turn.put_fault.Goals as goal
 
 pub returns : goal.returns

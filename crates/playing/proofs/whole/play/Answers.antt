@@ -1,9 +1,6 @@
 -- What is left of the sheet, played on what the turns so far left, makes the whole of it; at the end nothing is left.
-use Prim.Native.Nat.{◌-◌}
 use native.Mathlib.Omega.{arith}
-use lib.ListN.{length}
-use Rattle.playing.proofs.Turns.{Playing, begun, turned, over, over_long}
-use borrow.Author.Rules.{rules}
+use Rattle.playing.proofs.Turns.{begun, turned, over, over_long}
 use Rattle.playing.proofs.whole.play.Goals as goal
 
 pub returns-then-sheet-gt-MOST_BYTES : goal.returns-then-sheet-gt-MOST_BYTES

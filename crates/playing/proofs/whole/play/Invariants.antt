@@ -1,9 +1,7 @@
 -- What is left of the sheet, played on what the turns so far left, makes the whole of it; at the end nothing is left.
 use Prim.Native.Nat.{◌-◌}
-use native.Mathlib.Omega.{arith}
 use lib.ListN.{length}
-use Rattle.playing.proofs.Turns.{Playing, begun, turned, over, over_long}
-use borrow.Author.Rules.{rules}
+use Rattle.playing.proofs.Turns.{Playing}
 use Rattle.playing.proofs.whole.play.Given as goal
 
 abbrev pub invariant-loop-at : goal.invariant-loop-at

@@ -14,7 +14,6 @@ inside : (l : List ℕ) (at k : ℕ) → k < entry_bytes → at + entry_bytes �
 inside l at k h room = omega arith
 
 -- the ten stores of the definition, each counted from the first byte
-
 stores : (l : List ℕ) (at : ℕ) (e : Entry) →
     put_entry l at e
     ≡ set (set (set (set (set (set (set (set (set (set l at e.kind)

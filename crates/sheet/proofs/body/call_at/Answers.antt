@@ -4,7 +4,6 @@ use native.Mathlib.Omega.{arith}
 use Rattle.sheet.specs.declared.form.Form.TheVariants.{Enrol, Submit, Withdraw}
 use Rattle.sheet.specs.Sheet.{call_at}
 use Rattle.sheet.proofs.Bodies.{lent}
-use borrow.Author.Rules.{rules}
 use Rattle.sheet.proofs.body.call_at.Goals as goal
 
 pub slice_bounds-enrol_at-end : goal.slice_bounds-enrol_at-end

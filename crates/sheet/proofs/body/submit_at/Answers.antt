@@ -1,6 +1,5 @@
 -- The body is read field by field where the definition has it.
 use Rattle.sheet.specs.Sheet.{call_at}
-use borrow.Author.Rules.{rules}
 use Rattle.sheet.proofs.body.submit_at.Goals as goal
 
 pub returns : goal.returns

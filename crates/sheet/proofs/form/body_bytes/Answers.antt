@@ -1,5 +1,4 @@
 -- Each arm's number is the length of its form's body.
-use borrow.Author.Rules.{rules}
 use Rattle.sheet.proofs.form.body_bytes.Goals as goal
 
 pub returns-in-Enrol : goal.returns-in-Enrol

@@ -2,7 +2,6 @@
 use mathlib.Core.Path.{sym, ◌∙◌}
 use native.Mathlib.Omega.{arith}
 use Rattle.sheet.proofs.Bodies.{past, unknown, whole, cut}
-use borrow.Author.Rules.{rules}
 use Rattle.sheet.proofs.split.next_at.Goals as goal
 
 pub returns-then-sheet-at : goal.returns-then-sheet-at

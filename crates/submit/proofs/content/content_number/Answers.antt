@@ -8,7 +8,6 @@ use Rattle.calls.specs.Checks.{content_rules}
 use Rattle.submit.proofs.content.content_number.Goals as goal
 
 -- the limit is 10^n, and the head is the journal's
-
 limit_is : {t : Summary} (j : Journal) → t ≡ summary_of j → t.limit ≡ ten_to j.head.dials
 unfolding summary_of
 limit_is j h = ap (λ (t : Summary). t.limit) h

@@ -8,7 +8,6 @@ use Rattle.submit.proofs.decide.decide_sound.Goals as goal
 
 -- what is counted and whether the read is withdrawn are the journal's, and so are the read of that day and the order, of a read of a good date
 -- on whose day none stands
-
 pub returns-then-content-ne-ACCEPTED : goal.returns-then-content-ne-ACCEPTED
 returns-then-content-ne-ACCEPTED c =
     let content_is = c.content_number-content.ensures _ c.requires.0.summary c.requires.1 in

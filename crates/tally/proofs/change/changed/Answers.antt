@@ -13,7 +13,6 @@ use Rattle.tally.specs.Change.{taken, tally_after}
 use Rattle.tally.proofs.change.changed.Goals as goal
 
 -- a report's answer changes nothing, whatever the call
-
 same : (b : Bool) (t : Tally) → t ≡ cond b t t
 same true t = refl
 same false t = refl

@@ -2,7 +2,6 @@
 use mathlib.Core.Path.{sym}
 use mathlib.Core.Bool.{and-false}
 use borrow.Author.Tests.{le-leb, lt-leb}
-use borrow.Author.Rules.{rules}
 use Rattle.terms.proofs.Letters.{bit_of_known}
 use Rattle.terms.proofs.letter.is_known.Goals as goal
 

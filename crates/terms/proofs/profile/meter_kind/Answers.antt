@@ -1,5 +1,4 @@
 -- Each arm's number is its profile's.
-use borrow.Author.Rules.{rules}
 use Rattle.terms.specs.Profile.{meter_kind}
 use Rattle.terms.proofs.profile.meter_kind.Goals as goal
 

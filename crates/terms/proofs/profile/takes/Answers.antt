@@ -1,5 +1,4 @@
 -- Each arm's test is the definition's for its profile.
-use borrow.Author.Rules.{rules}
 use Rattle.terms.specs.Profile.{takes}
 use Rattle.terms.proofs.profile.takes.Goals as goal
 
