@@ -1,6 +1,6 @@
 //! What a document names is there. A reference is a link, or stands in backticks and has one of two shapes:
 //! - a path, which may leave out `crates/`, alone or with names that the file declares:
-//!   `journal/specs/Sound.antt: isSound, isHead`. Words in quotes after a test's path are labels in its file. A path
+//!   `journal/specs/Sound.antt: is_sound, is_head`. Words in quotes after a test's path are labels in its file. A path
 //!   with a word in capitals is a pattern and names nothing.
 //! - an item of a crate by its file: `register::head::Head`, and `place::locate` for one in `lib.rt` or `main.rt`.
 

@@ -48,7 +48,12 @@ fn the_readme_shows_the_examples_as_they_are_built() {
 
 /// Those that prove, and the long comparison, are left to the gate.
 fn is_slow(command: &str) -> bool {
-    ["rt ", "bash .ci/run", "NECKTUREEN_CALLS"].iter().any(|word| command.starts_with(word))
+    ["rt lib", "bash .ci/run", "NECKTUREEN_CALLS"].iter().any(|word| command.contains(word))
+}
+
+/// What `rt run` builds is there, so that the program is run and not built once more.
+fn as_built(command: &str) -> String {
+    command.replace("(cd crates/readday && rt run < stdin)", "crates/readday/out/readday < crates/readday/stdin")
 }
 
 /// Every other command of a page ends well, by the plainest shell, and prints what is shown after it.
@@ -59,11 +64,10 @@ fn the_commands_of_the_readme_print_what_it_shows() {
     let mut compared = 0;
     for (position, block) in blocks.iter().enumerate() {
         let Block::Commands(command) = block else { continue };
-        let command = command.strip_prefix("rt check readday && ").unwrap_or(command);
         if is_slow(command) {
             continue;
         }
-        let output = run(Command::new("sh").args(["-c", command]), &[]);
+        let output = run(Command::new("sh").args(["-c", &as_built(command)]), &[]);
         assert!(output.status.success(), "{command}\n{}", as_text(&output.stderr));
         if let Some(Block::Fenced { word, text }) = blocks.get(position + 1) {
             if word == "text" {

@@ -46,9 +46,9 @@ fn case_s() -> Vec<u8> {
 
 const CASE_S: &str = "0 0 0\n0 0 0\n0 0 200\n0 0 200\n18 0 0\n20 0 0\n0 1 500\n0 1 -500\n8 0 0\n0 3 0 400\n";
 
-/// The program, waiting for a sheet. It is there once `rt check` or `rt ci` has passed.
+/// The program, waiting for a sheet. It is there once `rt run` or `rt ci` has passed.
 fn start() -> Child {
-    let program = Path::new(env!("CARGO_MANIFEST_DIR")).join("../target/bin/readday");
+    let program = Path::new(env!("CARGO_MANIFEST_DIR")).join("../crates/readday/out/readday");
     Command::new(&program)
         .stdin(Stdio::piped())
         .stdout(Stdio::piped())

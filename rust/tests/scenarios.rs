@@ -34,7 +34,7 @@ fn the_kept_scenarios_get_their_answers() {
 fn printed(name: &str) -> String {
     let sheet = run_example("scenario", &["--sheet", &format!("rust/scenarios/{name}")], &[]);
     assert!(sheet.status.success(), "{}", as_text(&sheet.stderr));
-    as_text(&run(&mut Command::new(repository().join("target/bin/readday")), &sheet.stdout).stdout)
+    as_text(&run(&mut Command::new(repository().join("crates/readday/out/readday")), &sheet.stdout).stdout)
 }
 
 #[test]

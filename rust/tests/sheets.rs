@@ -236,7 +236,7 @@ fn play_writes_what_the_peer_does() {
 // ---- The program ----
 
 fn program() -> PathBuf {
-    PathBuf::from(env!("CARGO_MANIFEST_DIR")).join("../target/bin/readday")
+    PathBuf::from(env!("CARGO_MANIFEST_DIR")).join("../crates/readday/out/readday")
 }
 
 /// What the program prints for a sheet.
@@ -262,7 +262,7 @@ fn program_differs(sheet: &[u8]) -> bool {
 #[test]
 fn the_program_prints_what_the_peer_does() {
     if !program().exists() {
-        say("target/bin/readday is not built: no sheet was given to it");
+        say("crates/readday/out/readday is not built: no sheet was given to it");
         return;
     }
     let mut random = Random::new(seed());

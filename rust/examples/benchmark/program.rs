@@ -15,7 +15,7 @@ use std::time::Instant;
 const ROUNDS: usize = 201;
 
 fn readday() -> PathBuf {
-    Path::new(env!("CARGO_MANIFEST_DIR")).join("../target/bin/readday")
+    Path::new(env!("CARGO_MANIFEST_DIR")).join("../crates/readday/out/readday")
 }
 
 fn printed(program: &Path, sheet: &[u8]) -> Vec<u8> {
@@ -76,7 +76,7 @@ fn measure(lines: &[Line]) -> Vec<f64> {
 pub fn print_table() -> Result<(), String> {
     let (readday, sheet) = (readday(), long_sheet());
     if !readday.exists() {
-        return Err("target/bin/readday is not built, so the program was not timed: run `rt check readday`".into());
+        return Err("readday is not built, so it was not timed: run `rt run` in crates/readday".into());
     }
     assert!(printed(&readday, &sheet) == peer::run(&sheet), "program and peer print different lines");
     let calls: Vec<Call> = necktureen::calls(&sheet).collect();
