@@ -1,1 +1,3 @@
+pub mod Tells
+pub mod ToldOver
 pub mod Enough
