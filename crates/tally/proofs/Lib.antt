@@ -1,7 +1,16 @@
 pub mod Fits
+pub mod FitValues
+pub mod FitsUnbroken
+pub mod ValuesFit
+pub mod FitNumbers
 pub mod Moves
 pub mod Withdrawals
 pub mod OfJournal
+pub mod Standing
+pub mod FirstWith
+pub mod FirstWithout
 pub mod Wants
 pub mod Changes
+pub mod StepOwn
+pub mod StepOther
 pub mod Runs

@@ -35,7 +35,8 @@ use Rattle.calls.proofs.ReportKept.{sound_report}
 use Rattle.tally.specs.declared.tally.Tally.{Tally}
 use Rattle.tally.specs.Tally.{tallied, zero_tally, is_zero, tally_number, tally_total, tally_report}
 use Rattle.tally.specs.Kept.{most_day}
-use Rattle.tally.proofs.Fits.{Fits, fits_number}
+use Rattle.tally.proofs.Fits.{Fits}
+use Rattle.tally.proofs.FitNumbers.{fits_number}
 
 -- the value of the last of some reads, and 0 where there is none
 unfoldable pub last_value : List Entry → ℕ

@@ -1,21 +1,21 @@
 -- A tally over a whole list of calls, and the claim: a report from it is a full report of its meter.
 use mathlib.Core.Path.{◌≡◌, refl, sym, ap, ◌∙◌}
 use mathlib.Core.Logic.{inl, ⊎_elim}
-use mathlib.Core.Bool.{true, false, cond}
+use mathlib.Core.Bool.{true}
 use mathlib.Core.List.{List, [], ◌∷◌}
-use Prim.Native.Nat.{ℕ, ◌≤◌, ◌<◌}
+use Prim.Native.Nat.{ℕ, ◌≤◌}
 use borrow.Author.Tests.{leb-true, leb-false}
 use lib.Dec.{leb}
 use Rattle.terms.specs.Number.{no_meter}
 use Rattle.register.specs.Area.{areas_in, area_of}
-use Rattle.register.proofs.Areas.{same_areas, area_length}
+use Rattle.register.proofs.Areas.{same_areas}
 use Rattle.calls.specs.declared.call.Call.{Call}
 use Rattle.calls.specs.declared.call.Call.TheVariants.{Report as ReportCall}
 use Rattle.calls.specs.declared.call.Reply.TheVariants.{Reported}
 use Rattle.calls.specs.Calls.{act, report_in, place_of, refusal_of, Done, step}
 use Rattle.calls.specs.Play.{exchanges, register_after, zero_register, number_of, names}
 use Rattle.calls.proofs.Bools.{both, by_test}
-use Rattle.calls.proofs.Frame.{Whole, Near, near_all, room, own_reply, own_area_after, step_whole, named_place, unnamed_area, refuses}
+use Rattle.calls.proofs.Frame.{Whole, Near, near_all, own_reply, step_whole, named_place, refuses}
 use Rattle.calls.proofs.Chains.{run_whole, zero_whole, zero_area}
 use Rattle.calls.proofs.Known.{local}
 use Rattle.calls.proofs.Refusals.{refusal_number}
@@ -24,11 +24,9 @@ use Rattle.tally.specs.Tally.{zero_tally, is_zero, tally_number, tally_report}
 use Rattle.tally.specs.Change.{tally_after}
 use Rattle.tally.specs.Kept.{tally_over, is_dated, are_dated, TalliesReport}
 use Rattle.tally.proofs.OfJournal.{sound_tally_report, zero_report}
-use Rattle.tally.proofs.Changes.{Kept, call_kept}
-
--- what an exchange at a meter makes of a tally
-abbrev changed : ℕ → Call → List ℕ → Tally → Tally
-changed meter call register t = cond (names meter call) (tally_after call (step call register).reply t) t
+use Rattle.tally.proofs.Changes.{Kept}
+use Rattle.tally.proofs.StepOwn.{changed, own}
+use Rattle.tally.proofs.StepOther.{other}
 
 -- a report from a tally that is kept is a report of the area
 kept_report : (area : List ℕ) (t : Tally) → Kept area t → Reported (tally_report t) ≡ (report_in area).reply
@@ -44,20 +42,8 @@ module _ (meter : ℕ) (near : Near meter) where
     abbrev Changed : Type 0
     Changed = Kept (area_of meter (step call register).register) (changed meter call register t)
 
-    own : names meter call ≡ true → Changed
-    own named =
-        let at = named_place meter call named in
-        let here : place_of call < areas_in register = rw at (near register whole) in
-        let size = area_length meter register (room meter register (near register whole) whole) in
-        let bytes : area_of meter (step call register).register ≡ (act call (area_of meter register)).area = cc (own_area_after local register whole call here) in
-        let reply : (step call register).reply ≡ (act call (area_of meter register)).reply = cc (own_reply local register whole call here) in
-        rw (bytes, named, reply) (call_kept (area_of meter register) t kept call size dated)
-
-    other : names meter call ≡ false → Changed
-    other unnamed = rw (unnamed_area local register whole call meter unnamed, unnamed) kept
-
     step_kept : Changed
-    step_kept = by_test (names meter call) own other
+    step_kept = by_test (names meter call) (own meter near call register whole dated t kept) (other meter call register whole t kept)
 
   run_kept : (calls : List Call) (register : List ℕ) → Whole register → are_dated calls ≡ true → (t : Tally) → Kept (area_of meter register) t → Kept (area_of meter (register_after calls register)) (tally_over meter (exchanges calls register) t)
   unfolding register_after exchanges tally_over are_dated

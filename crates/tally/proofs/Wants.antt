@@ -1,11 +1,9 @@
 -- The numbers that an accepted call makes of a journal's tally are those of the journal after it: enrolled, with a read more, and with a read
 -- less.
 use mathlib.Core.Path.{◌≡◌, refl, sym, ap, ◌∙◌}
-use mathlib.Core.Bool.{true, false, cond}
+use mathlib.Core.Bool.{cond}
 use mathlib.Core.List.{List, [], ◌∷◌}
-use Prim.Native.Nat.{ℕ, ◌+◌, ◌*◌}
-use native.Mathlib.Omega.{arith}
-use borrow.Author.Tests.{eq-eqb, ne_eqb}
+use Prim.Native.Nat.{ℕ, ◌*◌}
 use lib.Dec.{eqb}
 use lib.IntN.{ℤ, pos, neg_ℤ, ◌+ℤ◌, ◌-ℤ◌, +ℤ_assoc, +ℤ_idl, +ℤ_invr, +ℤ-neg_ℤ_cancel, -ℤ-+ℤ_cancel, neg_ℤ-+ℤ, neg_ℤ-neg_ℤ}
 use Rattle.arithmetic.specs.Powers.{ten_to}
@@ -15,12 +13,14 @@ use Rattle.terms.specs.Entry.{slot_at}
 use Rattle.terms.specs.Number.{accepted}
 use Rattle.rules.specs.Volume.{advance_over}
 use Rattle.register.specs.declared.head.Head.{Head}
-use Rattle.journal.specs.Journal.{first_value}
-use Rattle.journal.specs.Total.{standing_in, flagged_in, first_in}
-use Rattle.calls.proofs.Totals.{IsFlag, Bare, flagged_in_lem, first_more, first_bare, folded_bare}
+use Rattle.journal.specs.Total.{standing_in, flagged_in}
+use Rattle.calls.proofs.Totals.{IsFlag, Bare, flagged_in_lem}
 use Rattle.tally.specs.declared.tally.Tally.{Tally}
 use Rattle.tally.specs.Tally.{tally_number}
 use Rattle.tally.specs.Change.{Wanted, tally_for, may_be, made_to, enrolled, with_read, without_read, last_without}
+use Rattle.tally.proofs.Standing.{stand_none, stand_one, stand_more, stand_two}
+use Rattle.tally.proofs.FirstWith.{first_with}
+use Rattle.tally.proofs.FirstWithout.{first_without}
 use Rattle.tally.proofs.OfJournal.{last_value, tally_of, none_first, none_flagged}
 
 -- none of the numbers is below 0, and they are those of a tally
@@ -37,29 +37,6 @@ unfolding made_to may_be tally_for
 made w next t wants number =
     rw (wants.dials_are, wants.standing_is, wants.flagged_is, wants.first_is, wants.last_is, number)
 
--- ---- how many stand: none, one, or more
-module _ (head : Head) (bare : Bare head) where
-  stand_none : standing_in head [] ≡ 0
-  unfolding standing_in
-  stand_none = omega (arith, folded_bare head bare)
-
-  stand_one : (e : Entry) → eqb (standing_in head (e ∷ [])) 1 ≡ true
-  unfolding standing_in
-  stand_one e = eq-eqb (standing_in head (e ∷ [])) 1 (omega (arith, folded_bare head bare))
-
-module _ (head : Head) (e : Entry) where
-  stand_more : (ss : List Entry) → standing_in head (e ∷ ss) ≡ standing_in head ss + 1
-  unfolding standing_in
-  stand_more ss = omega arith
-
-  stand_some : (ss : List Entry) → eqb (standing_in head (e ∷ ss)) 0 ≡ false
-  unfolding standing_in
-  stand_some ss = ne_eqb (standing_in head (e ∷ ss)) 0 (λ none. omega arith)
-
-  stand_two : (s : Entry) (ss : List Entry) → eqb (standing_in head (e ∷ s ∷ ss)) 1 ≡ false
-  unfolding standing_in
-  stand_two s ss = ne_eqb (standing_in head (e ∷ s ∷ ss)) 1 (λ one. omega arith)
-
 -- ---- an enrolment: nothing stands yet
 pub wants_enrolled : (head : Head) → Bare head → Wants (enrolled head.dials) (tally_of head [])
 unfolding enrolled last_value
@@ -74,11 +51,6 @@ wants_enrolled head bare =
 
 -- ---- a read more
 module _ (head : Head) (e : Entry) where
-  first_with : (ss : List Entry) → (ss ≡ [] → Bare head) → cond (eqb (standing_in head ss) 0) e.value (first_in head ss) ≡ first_in head (e ∷ ss)
-  unfolding first_value
-  first_with [] bare = rw (stand_none head (bare refl)) (sym (first_bare head (e ∷ []) (bare refl)))
-  first_with (s ∷ ss) bare = rw (stand_some head s ss) (sym (first_more head e s ss))
-
   pub wants_more : IsFlag e.flag → (ss : List Entry) → (ss ≡ [] → Bare head) → Wants (with_read e.value e.flag (tally_of head ss)) (tally_of head (e ∷ ss))
   unfolding with_read last_value
   wants_more flag ss bare =
@@ -86,7 +58,7 @@ module _ (head : Head) (e : Entry) where
         dials_are = refl;
         standing_is = ap pos (sym (stand_more head e ss));
         flagged_is = ap pos (sym (flagged_in_lem head e ss flag));
-        first_is = first_with ss bare;
+        first_is = first_with head e ss bare;
         last_is = refl;
       }
 
@@ -107,10 +79,6 @@ module _ (head : Head) (e : Entry) where
   abbrev answered : List Entry → ℤ
   answered ss = neg_ℤ (advance_over head.dials e.value e.flag (slot_at ss 0))
 
-  first_without : (ss : List Entry) → (ss ≡ [] → Bare head) → cond (eqb (standing_in head (e ∷ ss)) 1) 0 (first_in head (e ∷ ss)) ≡ first_in head ss
-  first_without [] bare = rw (stand_one head (bare refl) e) (sym (none_first head (bare refl)))
-  first_without (s ∷ ss) bare = rw (stand_two head e s ss) (first_more head e s ss)
-
   last_without_lem : (ss : List Entry) → (ss ≡ [] → Bare head) → cond (eqb (standing_in head (e ∷ ss)) 1) (pos 0) (last_without e.flag (answered ss) (tally_of head (e ∷ ss))) ≡ pos (last_value ss)
   unfolding last_without last_value advance_over advance_of slot_at
   last_without_lem [] bare = rw (stand_one head (bare refl) e)
@@ -123,6 +91,6 @@ module _ (head : Head) (e : Entry) where
         dials_are = refl;
         standing_is = ap (λ (k : ℕ). pos k -ℤ pos 1) (stand_more head e ss) ∙ +ℤ-neg_ℤ_cancel (pos (standing_in head ss)) (pos 1);
         flagged_is = ap (λ (k : ℕ). pos k -ℤ pos e.flag) (flagged_in_lem head e ss flag) ∙ +ℤ-neg_ℤ_cancel (pos (flagged_in head ss)) (pos e.flag);
-        first_is = first_without ss bare;
+        first_is = first_without head e ss bare;
         last_is = last_without_lem ss bare;
       }

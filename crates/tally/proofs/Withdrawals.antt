@@ -16,7 +16,7 @@ use Rattle.tally.specs.declared.change.Moved.TheVariants.{To, Out}
 use Rattle.tally.specs.Tally.{tallied, tally_number}
 use Rattle.tally.specs.Change.{Wanted, tally_for, may_be, made_to, without_read}
 use Rattle.tally.specs.Inner.Moved.{shown_by, moved_to}
-use Rattle.tally.proofs.Fits.{number_fits}
+use Rattle.tally.proofs.FitNumbers.{number_fits}
 use Rattle.tally.proofs.Moves.{less, below}
 
 -- ---- a value that is shown, and one that is not

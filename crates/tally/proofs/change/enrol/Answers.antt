@@ -3,7 +3,7 @@ use mathlib.Core.Path.{sym, ◌∙◌}
 use Rattle.calls.proofs.Bools.{by_test}
 use Rattle.tally.specs.Tally.{is_zero}
 use Rattle.tally.specs.Change.{tally_for, may_be, made_to, enrolled}
-use Rattle.tally.proofs.Fits.{zero_number, number_zero}
+use Rattle.tally.proofs.FitNumbers.{zero_number, number_zero}
 use Rattle.tally.proofs.change.enrol.Goals as goal
 
 pub returns-then-tally_number-ne-NO_METER : goal.returns-then-tally_number-ne-NO_METER

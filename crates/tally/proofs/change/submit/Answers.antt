@@ -6,7 +6,7 @@ use borrow.Author.Tests.{eq-eqb, ne_eqb}
 use lib.Dec.{eqb}
 use Rattle.terms.specs.Number.{accepted}
 use Rattle.tally.specs.Change.{tally_for, may_be, made_to, with_read}
-use Rattle.tally.proofs.Fits.{number_fits}
+use Rattle.tally.proofs.FitNumbers.{number_fits}
 use Rattle.tally.proofs.change.submit.Goals.{then-t-eq0, else-t-eq0}
 use Rattle.tally.proofs.change.submit.Goals as goal
 

@@ -7,7 +7,7 @@ use mir.Syntax.{w64}
 use mir.ValLaws.{to_z-of_z}
 use Rattle.terms.specs.Number.{accepted}
 use Rattle.tally.specs.Tally.{tally_number, tally_total, tally_report}
-use Rattle.tally.proofs.Fits.{number_fits}
+use Rattle.tally.proofs.FitNumbers.{number_fits}
 use borrow.Author.Rules.{rules}
 use Rattle.tally.proofs.report.report_tally.Statement.{statement}
 use Rattle.tally.proofs.report.report_tally.Tie as tie
