@@ -170,7 +170,7 @@ fn what_the_documents_name_is_there() {
 fn a_wrong_reference_is_seen() {
     let right = [
         "`calls/specs/Calls.antt: step, Done, register`, `calls/must-fail/refusal_writes.edit`",
-        "`CRATE/must-fail/NAME.edit`, `register::head::Head`, `place::locate`, `terms::number::Number::FULL`",
+        "`CRATE/must-fail/NAME.edit`, `register::head::Head`, `place::locate`, `register::area::Layout::AREAS`",
         "`rust/tests/damage.rs: damaged` \"day 0\", \"two F\", [README](README.md)",
     ];
     let wrong = [
@@ -182,7 +182,7 @@ fn a_wrong_reference_is_seen() {
         "`register::head::Tail`",
         "`registers::head::Head`",
         "`place::find`",
-        "`terms::number::Number::NONE`",
+        "`register::area::Layout::NONE`",
         "`rust/tests/damage.rs: undamaged`",
         "`rust/tests/damage.rs` \"day 0\", \"day 70,000\"",
         "[README](README)",

@@ -1,4 +1,3 @@
 pub mod Signed
 pub mod Negated
-pub mod Table
 pub mod Laws

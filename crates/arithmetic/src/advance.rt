@@ -20,10 +20,8 @@ pub fn total(turn: u32, newer: u32, flags: u16, older: u32) -> i64
 pub fn advance(n: u8, newer: u32, flags: u8, older: u32) -> i64
     ensures { result ≡ advance_of n newer flags older }
 {
-    let apart = (newer as i64) - (older as i64);
     if flags == 0 {
-        return apart;
+        return (newer as i64) - (older as i64);
     }
-    let turned = power(n) * (flags as u64);
-    apart + (turned as i64)
+    total(power(n) as u32, newer, flags as u16, older)
 }

@@ -1,6 +1,5 @@
-// The arithmetic that every rule shares: the powers of ten, the signed advance, and how large a signed number is.
+// The arithmetic that every rule shares: the powers of ten and the signed advance.
 #![tactic(auto)]
 
 pub mod advance;
-pub mod magnitude;
 pub mod powers;

@@ -2,7 +2,7 @@
 ghost use Rattle.std.specs.Prelude.{◌≡◌, ◌-◌};
 ghost use Rattle.arithmetic.specs.Powers.{ten_to};
 
-const POWERS: [u32; 10] = [
+const POWERS: [u64; 10] = [
     1, 10, 100, 1000, 10000, 100000, 1000000, 10000000, 100000000, 1000000000,
 ];
 
@@ -10,19 +10,12 @@ const POWERS: [u32; 10] = [
 pub fn power(n: u8) -> u64
     ensures { result ≡ ten_to n }
 {
-    let i = n as usize;
-    if i < 10 {
-        return POWERS[i] as u64;
-    }
-    0
+    POWERS.get(n as usize).copied().unwrap_or(0)
 }
 
 // 10^(n − 2), the unit in which the marks near a turn of the dials are counted.
 pub fn mark_unit(n: u8) -> u64
     ensures { result ≡ ten_to (n - 2) }
 {
-    if n < 2 {
-        return power(0);
-    }
-    power(n - 2)
+    power(n.saturating_sub(2))
 }

@@ -1,14 +1,11 @@
 // From a day number to its date, and back.
-ghost use Rattle.std.specs.Prelude.{◌≡◌};
+ghost use Rattle.std.specs.Prelude.{◌≡◌, unwrap_or};
 ghost use Rattle.calendar.specs.Date.{is_in_calendar, date_of, day_of};
 
 use crate::date::Date;
 use crate::month::{MONTHS, days_before, month_at, month_length};
 use crate::starts::{FIRST_YEAR, YEARS, year_start};
 use crate::year::{is_leap, year_at};
-
-// The last day that has a number, 2179-06-05.
-const LAST_DAY: u32 = 65535;
 
 // The date of a day, and zeros for day 0.
 pub fn date_of(day: u16) -> Date
@@ -36,35 +33,33 @@ pub fn date_of(day: u16) -> Date
 }
 
 // There are such a month and such a day in it.
+#[tactic(auto, unfolding(crate::specs::Date::is_in_calendar, crate::specs::Month::month_length))]
 fn is_in_calendar(date: Date) -> bool
     ensures { result ≡ is_in_calendar date }
 {
-    let month = date.month;
-    let day = date.day;
-    let most = month_length(is_leap(date.year), month);
-    ((1 <= month) & ((month as u16) <= MONTHS)) & ((1 <= day) & (day <= most))
+    let most = month_length(is_leap(date.year), date.month);
+    (1..=MONTHS).contains(&(date.month as u16)) && (1..=most).contains(&date.day)
 }
 
-// The day of a date; 0 for a date that is not in the calendar or has no day number, as those after 5 June 2179, whose number two bytes do not hold.
+// The day of a date, if it is in the calendar and has a day number, as those after 5 June 2179 have not, whose number two bytes do not hold.
+fn number_of(date: Date) -> Option<u16>
+    ensures { unwrap_or result 0 ≡ day_of date }
+{
+    if !is_in_calendar(date) {
+        return None;
+    }
+    let years = date.year.checked_sub(FIRST_YEAR)?;
+    if years >= YEARS {
+        return None;
+    }
+    let start = year_start(years) as u32;
+    let before = days_before(is_leap(date.year), (date.month - 1) as u16) as u32;
+    u16::try_from(start + before + ((date.day - 1) as u32)).ok()
+}
+
+// The same with 0 where there is none, as document 02 has it: `day_of` of the definitions, and of the C interface.
 pub fn day_of(date: Date) -> u16
     ensures { result ≡ day_of date }
 {
-    if !is_in_calendar(date) {
-        return 0;
-    }
-    let year = date.year;
-    if year < FIRST_YEAR {
-        return 0;
-    }
-    let years = year - FIRST_YEAR;
-    if YEARS <= years {
-        return 0;
-    }
-    let start = year_start(years) as u32;
-    let before = days_before(is_leap(year), (date.month - 1) as u16) as u32;
-    let number = start + before + ((date.day - 1) as u32);
-    if LAST_DAY < number {
-        return 0;
-    }
-    number as u16
+    number_of(date).unwrap_or(0)
 }

@@ -1,6 +1,6 @@
 // A date by its parts.
 
-// Zeros where there is none.
+// Zeros where there is none, and no Option: so `date_of` of the definitions and of the C interface has it.
 #[derive(Clone, Copy)]
 pub struct Date {
     pub year: u16,

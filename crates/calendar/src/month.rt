@@ -12,22 +12,20 @@ const EVEN_YEAR: u16 = 367;
 // The first day of March after such a February.
 const EVEN_MARCH: u16 = 61;
 
+#[tactic(auto, unfolding(crate::specs::Month::length_in, crate::specs::Month::has_thirty))]
 pub(crate) fn month_length(leap: bool, month: u8) -> u8
     ensures { result ≡ length_in leap month }
 {
-    if month == 2 {
-        if leap {
-            return 29;
-        }
-        return 28;
+    match month {
+        2 if leap => 29,
+        2 => 28,
+        4 | 6 | 9 | 11 => 30,
+        _ => 31,
     }
-    if (month == 4) | ((month == 6) | ((month == 9) | (month == 11))) {
-        return 30;
-    }
-    31
 }
 
 // The days that February lacks to thirty.
+#[tactic(auto, unfolding(crate::specs::Inner::Placed::lacking_in))]
 fn lacking(leap: bool) -> u16
     ensures { result ≡ lacking_in leap }
 {
@@ -38,6 +36,7 @@ fn lacking(leap: bool) -> u16
 }
 
 // A day of the year, of which there are at most 366, counted as if February had thirty.
+#[tactic(auto, using(crate::proofs::Months::lacking_bounds), unfolding(crate::specs::Inner::Placed::even_day))]
 fn even_day(leap: bool, day: u16) -> u16
     requires { day < 366 }
     ensures { result ≡ even_day leap day }

@@ -1,4 +1,4 @@
-// The table of the day numbers on which the years 2000 to 2179 begin.
+// The table of the day numbers on which the years 2000 to 2179 begin, which document 02 asks for.
 ghost use Rattle.std.specs.Prelude.{◌≡◌, ◌<◌};
 ghost use Rattle.calendar.specs.Year.{year_start, years_held};
 

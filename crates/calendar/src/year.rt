@@ -13,12 +13,14 @@ const DAYS_IN_FOUR_YEARS: u32 = 1461;
 const START_OF_2101: u16 = 36891;
 
 // A leap year divides by 4, and not by 100 unless by 400.
+#[tactic(auto, unfolding(crate::specs::Year::is_leap))]
 pub fn is_leap(year: u16) -> bool
     ensures { result ≡ is_leap year }
 {
-    (year % 4 == 0) & (!(year % 100 == 0) | (year % 400 == 0))
+    year % 4 == 0 && (year % 100 != 0 || year % 400 == 0)
 }
 
+#[tactic(auto, unfolding(crate::specs::Year::year_length))]
 pub fn year_length(year: u16) -> u16
     ensures { result ≡ year_length year }
 {
@@ -30,6 +32,7 @@ pub fn year_length(year: u16) -> u16
 
 // The days before a day, and from 2101 on one more for the leap day that 2100 lacks: so every four years have as many, the first of them one more than
 // the others.
+#[tactic(auto, unfolding(crate::specs::Inner::Placed::even_days))]
 fn even_days(day: u16) -> u16
     requires { 1 ≤ day }
     ensures { result ≡ even_days day }

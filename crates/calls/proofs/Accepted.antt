@@ -1,4 +1,5 @@
 -- A read that is accepted, or held for its volume, may follow the kept entries of its journal.
+use Rattle.std.specs.Prelude.{Option}
 use mathlib.Core.Path.{◌≡◌, refl, sym, ap, ◌∙◌}
 use mathlib.Core.Bool.{Bool, true, false, not, ◌&&◌, ◌||◌, cond}
 use mathlib.Core.List.{List, [], ◌∷◌}
@@ -10,7 +11,6 @@ use lib.Dec.{eqb}
 use Rattle.register.specs.declared.head.Head.{Head}
 use Rattle.register.specs.Head.{head_of, most_entries}
 use Rattle.terms.specs.declared.entry.Entry.{Entry}
-use Rattle.terms.specs.declared.entry.Slot.{Slot}
 use Rattle.terms.specs.declared.submission.Submission.{Submission}
 use Rattle.terms.specs.Letter.{is_holdable}
 use Rattle.terms.specs.Number.{accepted, low, high, over_capacity}
@@ -33,7 +33,7 @@ use Rattle.calls.proofs.Clauses.{kept_sound}
 use Rattle.calls.proofs.Shape.{sounds, kept_at_most}
 
 -- ---- a read follows kept entries, to stand or to be held
-module _ (head : Head) (e : Entry) (last held : Slot) (ended : Bool) (body : is_in_range head e ≡ true) (none : is_there held ≡ false) (final : not (is_final_read e && ended) ≡ true) where
+module _ (head : Head) (e : Entry) (last held : Option Entry) (ended : Bool) (body : is_in_range head e ≡ true) (none : is_there held ≡ false) (final : not (is_final_read e && ended) ≡ true) where
   follow_standing : is_standing e ≡ true → is_held e ≡ false → may_stand head e last ≡ true → may_follow head e last held ended ≡ true
   unfolding may_follow is_read
   follow_standing st nh stands =

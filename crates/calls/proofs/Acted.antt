@@ -1,4 +1,5 @@
 -- What each call does to its area, by its number; a call that is refused leaves it.
+use Rattle.std.specs.Prelude.{Some}
 use mathlib.Core.Path.{◌≡◌, refl, ap}
 use mathlib.Core.Bool.{true, false}
 use mathlib.Core.List.{List, ◌∷◌}
@@ -7,7 +8,6 @@ use borrow.Author.Tests.{eq-eqb, not-false}
 use lib.Dec.{eqb}
 use lib.ListN.{length}
 use Rattle.terms.specs.declared.entry.Entry.{Entry}
-use Rattle.terms.specs.declared.entry.Slot.TheVariants.{Read}
 use Rattle.terms.specs.declared.submission.Submission.{Submission}
 use Rattle.terms.specs.Number.{accepted}
 use Rattle.terms.specs.Rule.{first_broken}
@@ -102,7 +102,7 @@ module _ (s : Submission) (a : List ℕ) where
       unfolding entry_for is_withdrawn
       query_withdrawn = withdrawn_after (taken kind_held) a (submit_in s a).area (volume_query size h)
 
-      pub query_held : held_of es' ≡ Read (taken kind_held)
+      pub query_held : held_of es' ≡ Some (taken kind_held)
       unfolding entry_for is_held
       query_held = held_after (taken kind_held) a (submit_in s a).area (volume_query size h)
 

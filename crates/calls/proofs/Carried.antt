@@ -1,5 +1,6 @@
 -- The carry of a sound journal: a read stands after it, it counts fewer reads than there are days before that one, and it stays right with
 -- the standing reads that come and go.
+use Rattle.std.specs.Prelude.{Option, Some, None}
 use mathlib.Core.Path.{◌≡◌, refl, ap}
 use mathlib.Core.Bool.{Bool, true, false, not, ◌&&◌, ◌||◌}
 use mathlib.Core.List.{List, [], ◌∷◌}
@@ -8,8 +9,6 @@ use native.Mathlib.Omega.{arith}
 use borrow.Author.Tests.{leb-true, ltb-true}
 use lib.Dec.{leb}
 use Rattle.terms.specs.declared.entry.Entry.{Entry}
-use Rattle.terms.specs.declared.entry.Slot.{Slot}
-use Rattle.terms.specs.declared.entry.Slot.TheVariants.{Read, Empty}
 use Rattle.register.specs.declared.head.Head.{Head}
 use Rattle.journal.specs.Journal.{oldest_of, day_of}
 use Rattle.journal.specs.Sound.{holds, has_read, is_before, is_carry, carries_right}
@@ -17,18 +16,18 @@ use Rattle.calls.specs.Checks.{is_oldest_kept}
 use Rattle.calls.proofs.Bools.{both, left_or, apart}
 
 -- ---- what a carry that is right says
-pub record Carries (head : Head) (oldest : Slot) : Type 0 where
+pub record Carries (head : Head) (oldest : Option Entry) : Type 0 where
   pub small : holds head head.carry.first ≡ true
   pub fewer : head.carry.flagged ≤ head.carry.folded
   pub some : 1 ≤ head.carry.folded
   pub before : head.carry.folded < day_of oldest
 
-before_day : (folded : ℕ) (oldest : Slot) → is_before folded oldest ≡ true → folded < day_of oldest
+before_day : (folded : ℕ) (oldest : Option Entry) → is_before folded oldest ≡ true → folded < day_of oldest
 unfolding is_before day_of
-before_day folded (Read e) h = ltb-true folded e.day h
-before_day folded Empty h = absurd (apart h refl)
+before_day folded (Some e) h = ltb-true folded e.day h
+before_day folded None h = absurd (apart h refl)
 
-carries_of : (head : Head) (oldest : Slot) → is_carry head oldest ≡ true → Carries head oldest
+carries_of : (head : Head) (oldest : Option Entry) → is_carry head oldest ≡ true → Carries head oldest
 unfolding is_carry
 carries_of head oldest h =
     let c = head.carry in

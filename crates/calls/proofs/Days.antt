@@ -1,4 +1,5 @@
 -- A sound journal has as many days as it counts reads, those that were folded too, so that their number fits two bytes.
+use Rattle.std.specs.Prelude.{Option, Some, None}
 use mathlib.Core.Path.{◌≡◌, refl, sym, ap, ◌∙◌}
 use mathlib.Core.Bool.{Bool, true, false, ◌&&◌, and-false}
 use mathlib.Core.List.{List, [], ◌∷◌}
@@ -8,8 +9,6 @@ use borrow.Author.Tests.{ne_eqb, not-false}
 use lib.Dec.{eqb}
 use lib.ListN.{length}
 use Rattle.terms.specs.declared.entry.Entry.{Entry}
-use Rattle.terms.specs.declared.entry.Slot.{Slot}
-use Rattle.terms.specs.declared.entry.Slot.TheVariants.{Read, Empty}
 use Rattle.terms.specs.Entry.{is_standing, slot_at}
 use Rattle.register.specs.declared.head.Head.{Head}
 use Rattle.register.specs.Head.{no_carry}
@@ -68,10 +67,10 @@ module _ (a : List ℕ) (sound : is_sound a ≡ true) where
   few_flagged = omega (arith, fewer_flagged (journal_of a).head (journal_of a).entries bare journal_sound, those_at_most is_flagged ss)
 
 -- ---- the last standing read is the oldest kept where it stands alone, since an older one has an earlier day
-oldest_other : (day value : ℕ) (head : Head) (oldest : Slot) → day_of oldest < day → is_oldest_kept day value head oldest ≡ false
+oldest_other : (day value : ℕ) (head : Head) (oldest : Option Entry) → day_of oldest < day → is_oldest_kept day value head oldest ≡ false
 unfolding is_oldest_kept day_of has_read
-oldest_other day value head (Read o) l = rw (ne_eqb o.day day (omega arith)) (and-false head.carried)
-oldest_other day value head Empty l = refl
+oldest_other day value head (Some o) l = rw (ne_eqb o.day day (omega arith)) (and-false head.carried)
+oldest_other day value head None l = refl
 
 last_oldest : (day value : ℕ) (head : Head) (ss : List Entry) → days_rise ss ≡ true → is_not_last day value (slot_at ss 0) ≡ false → is_oldest_kept day value head (oldest_of ss) ≡ head.carried && eqb (length ss) 1
 unfolding is_not_last slot_at oldest_of is_oldest_kept

@@ -1,4 +1,5 @@
 -- The calls have the effects that the theorem about lists uses: each is read off the laws about one call (`Acted`).
+use Rattle.std.specs.Prelude.{Option, Some, None}
 use mathlib.Core.Path.{◌≡◌, refl, sym, ap, ◌∙◌}
 use mathlib.Core.Logic.{inl, inr}
 use mathlib.Core.Bool.{Bool, true, false, not, ◌&&◌, ◌||◌}
@@ -12,8 +13,6 @@ use lib.ListN.{length}
 use Rattle.register.specs.declared.head.Head.{Head}
 use Rattle.terms.specs.declared.profile.Profile.{Profile}
 use Rattle.terms.specs.declared.entry.Entry.{Entry}
-use Rattle.terms.specs.declared.entry.Slot.{Slot}
-use Rattle.terms.specs.declared.entry.Slot.TheVariants.{Read, Empty}
 use Rattle.terms.specs.declared.submission.Submission.{Submission}
 use Rattle.terms.specs.Entry.{those, kind_carry, indicator_not_set, indicator_true, is_standing, is_withdrawn, is_held, slot_at}
 use Rattle.terms.specs.Letter.{is_opening}
@@ -129,10 +128,10 @@ module _ (day value : ℕ) (area : List ℕ) where
   abbrev withdraw_number : ℕ
   withdraw_number = first_broken (withdraw_checks day value area)
 
-  answer_number : (n : ℕ) (last second : Slot) → (withdrawn_answer n last second).number ≡ accepted
+  answer_number : (n : ℕ) (last second : Option Entry) → (withdrawn_answer n last second).number ≡ accepted
   unfolding withdrawn_answer
-  answer_number n (Read e) second = refl
-  answer_number n Empty second = refl
+  answer_number n (Some e) second = refl
+  answer_number n None second = refl
 
   pub withdraw_number_lem : number_of (withdraw_in day value area).reply ≡ withdraw_number
   unfolding withdraw_in number_of

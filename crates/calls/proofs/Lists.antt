@@ -1,4 +1,5 @@
 -- Lists of entries under tests: what the kept entries of a journal share with all of its entries.
+use Rattle.std.specs.Prelude.{None}
 use mathlib.Core.Path.{◌≡◌, refl, ap, ◌∙◌}
 use mathlib.Core.Bool.{Bool, true, false, not, ◌||◌, cond}
 use mathlib.Core.List.{List, [], ◌∷◌}
@@ -8,7 +9,6 @@ use lib.Dec.{eqb}
 use lib.ListN.{length}
 use Rattle.register.specs.declared.head.Head.{Head}
 use Rattle.terms.specs.declared.entry.Entry.{Entry}
-use Rattle.terms.specs.declared.entry.Slot.TheVariants.{Empty}
 use Rattle.terms.specs.Entry.{kind_standing, kind_withdrawn, kind_held, kind_carry, is_standing, is_withdrawn, is_held, keep_if, those}
 use Rattle.journal.specs.Journal.{is_kept, standing, withdrawn, kept, slot_if, held_of, is_there}
 use Rattle.journal.specs.Sound.{every, any, is_in_range, is_read, is_held_right}
@@ -110,7 +110,7 @@ unfolding any is_held_right
 none_held_right [] h = refl
 none_held_right (e ∷ es) h = let h' = neither (is_held e) (any is_held es) h in rw (h'.0, h'.1)
 
-pub none_held_empty : (es : List Entry) → any is_held es ≡ false → held_of es ≡ Empty
+pub none_held_empty : (es : List Entry) → any is_held es ≡ false → held_of es ≡ None
 unfolding any held_of
 none_held_empty [] h = refl
 none_held_empty (e ∷ es) h = rw (neither (is_held e) (any is_held es) h).0
@@ -136,7 +136,7 @@ module _ (head : Head) (e : Entry) (es : List Entry) (r : every (is_read head) (
   unfolding every
   newest_kept = kept_unless_held head e (both (is_read head e) (every (is_read head) es) r).0
 
-length_split : (b : Bool) (e : Entry) (es : List Entry) → suc (length es) ≡ cond (is_there (slot_if b e Empty)) (suc (length (keep_if (not b) e es))) (length (keep_if (not b) e es))
+length_split : (b : Bool) (e : Entry) (es : List Entry) → suc (length es) ≡ cond (is_there (slot_if b e None)) (suc (length (keep_if (not b) e es))) (length (keep_if (not b) e es))
 unfolding is_there
 length_split true e es = refl
 length_split false e es = refl

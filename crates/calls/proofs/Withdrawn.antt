@@ -1,4 +1,5 @@
 -- A withdrawal takes the last standing read away, keeps the others, and leaves no held one.
+use Rattle.std.specs.Prelude.{None}
 use mathlib.Core.Path.{◌≡◌, refl, sym, ap, ◌∙◌}
 use mathlib.Core.Bool.{true, false, ◌||◌}
 use mathlib.Core.List.{List, [], ◌∷◌}
@@ -8,7 +9,6 @@ use borrow.Author.Tests.{not-false}
 use lib.ListN.{length, set, take, drop, length-set}
 use lib.Seq.{take-set-le, drop-set-lt}
 use Rattle.terms.specs.declared.entry.Entry.{Entry}
-use Rattle.terms.specs.declared.entry.Slot.TheVariants.{Empty}
 use Rattle.terms.specs.Number.{accepted}
 use Rattle.terms.specs.Rule.{first_broken}
 use Rattle.terms.specs.Entry.{kind_withdrawn, is_standing, those, slot_at}
@@ -203,7 +203,7 @@ module _ (day value : ℕ) (a after : List ℕ) (w : Withdrawn day value a after
   still_withdrawn d v h = w.withdrawn_now d v ∙ right_or (has_read d v w.read) h
 
   -- and none is held then
-  pub none_held_after : held_of (journal_of after).entries ≡ Empty
+  pub none_held_after : held_of (journal_of after).entries ≡ None
   none_held_after =
       ap (λ (j : Journal). held_of j.entries) w.journal
       ∙ none_held_empty _ (newest_none_held _ (none_held (journal_of a).entries))

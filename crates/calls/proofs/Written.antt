@@ -1,4 +1,5 @@
 -- A read written after the kept entries is the newest, over a held one; the kept entries stay.
+use Rattle.std.specs.Prelude.{None}
 use mathlib.Core.Path.{◌≡◌, ap, ◌∙◌}
 use mathlib.Core.Bool.{true}
 use mathlib.Core.List.{List, ◌∷◌}
@@ -6,7 +7,6 @@ use Prim.Native.Nat.{ℕ, suc, ◌+◌, ◌≤◌, ◌<◌}
 use native.Mathlib.Omega.{arith}
 use lib.ListN.{length, drop}
 use Rattle.terms.specs.declared.entry.Entry.{Entry}
-use Rattle.terms.specs.declared.entry.Slot.TheVariants.{Empty}
 use Rattle.terms.specs.Entry.{is_standing, is_withdrawn, is_held, keep_if, those}
 use Rattle.register.specs.Area.{area_bytes, all_zero}
 use Rattle.register.specs.Entries.{entry_bytes, entry_start, put_entry}
@@ -98,6 +98,6 @@ module _ (e : Entry) (a after : List ℕ) (w : Written e a after) where
   unfolding those
   withdrawn_after = rw (entries, withdrawn_kept (journal_of a).entries)
 
-  pub held_after : held_of (journal_of after).entries ≡ slot_if (is_held e) e Empty
+  pub held_after : held_of (journal_of after).entries ≡ slot_if (is_held e) e None
   unfolding held_of
   held_after = rw entries

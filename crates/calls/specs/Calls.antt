@@ -1,9 +1,7 @@
 -- 01, Calls: what each call answers and what it leaves, byte for byte.
-use Rattle.std.specs.Prelude.{Bool, false, not, ◌||◌, cond, List, [], ◌∷◌, ℕ, ◌*◌, eqb, leb, ℤ, neg_ℤ, length, set, take, drop}
+use Rattle.std.specs.Prelude.{Bool, false, not, ◌||◌, cond, List, [], ◌∷◌, ℕ, ◌*◌, eqb, leb, ℤ, neg_ℤ, length, set, take, drop, Option, Some, None}
 use Rattle.terms.specs.declared.answer.Answer.{Answer}
 use Rattle.terms.specs.declared.entry.Entry.{Entry}
-use Rattle.terms.specs.declared.entry.Slot.{Slot}
-use Rattle.terms.specs.declared.entry.Slot.TheVariants.{Read, Empty}
 use Rattle.terms.specs.declared.profile.Profile.{Profile}
 use Rattle.terms.specs.declared.submission.Submission.{Submission}
 use Rattle.terms.specs.Answer.{answer, acceptance, refusal, refused_report}
@@ -95,10 +93,10 @@ withdrawn_area es area =
     withdrawn_bytes (entry_offset area (newest_at es)) (entry_offset area (kept es)) (is_there (held_of es)) area
 
 -- flag and negated advance of the last standing read over the one before
-unfoldable pub withdrawn_answer : ℕ → Slot → Slot → Answer
-withdrawn_answer n (Read r0) second =
+unfoldable pub withdrawn_answer : ℕ → Option Entry → Option Entry → Answer
+withdrawn_answer n (Some r0) second =
     answer accepted r0.flag (neg_ℤ (advance_over n r0.value r0.flag second))
-withdrawn_answer n Empty second = acceptance
+withdrawn_answer n None second = acceptance
 
 unfoldable pub withdraw_in : ℕ → ℕ → List ℕ → Acted
 withdraw_in day value area =

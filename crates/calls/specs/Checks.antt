@@ -1,18 +1,16 @@
 -- 01, Calls: the conditions of the table of numbers, and the order of checks of each call.
-use Rattle.std.specs.Prelude.{Bool, true, false, not, ◌&&◌, ◌||◌, List, [], ◌∷◌, ◌++◌, ℕ, eqb, leb, ltb, length}
+use Rattle.std.specs.Prelude.{Bool, true, false, not, ◌&&◌, ◌||◌, List, [], ◌∷◌, ◌++◌, ℕ, eqb, leb, ltb, length, Option, Some, None, Result}
 use Rattle.arithmetic.specs.Powers.{ten_to}
 use Rattle.terms.specs.declared.entry.Entry.{Entry}
-use Rattle.terms.specs.declared.entry.Slot.{Slot}
-use Rattle.terms.specs.declared.entry.Slot.TheVariants.{Read, Empty}
 use Rattle.terms.specs.declared.entry.Recent.{Recent}
 use Rattle.terms.specs.declared.profile.Profile.{Profile}
+use Rattle.terms.specs.declared.refusal.Refusal.{Refusal}
 use Rattle.terms.specs.declared.submission.Submission.{Submission}
 use Rattle.terms.specs.Letter.{letter_i, is_known, is_opening, is_final}
 use Rattle.terms.specs.Entry.{indicator_not_set, indicator_true, slot_at, recent_of}
 use Rattle.terms.specs.Number.{repeat, missing, content, other_type, date, withdrawn_read, read_at, read_eh, read_bf, back_dated, read_df, indicator_on_opening, no_original, full, read_ee, read_ef, low, high, over_capacity, not_standing, not_last, enrolled, plate, no_fold, oldest_kept}
 use Rattle.terms.specs.Profile.{takes}
 use Rattle.terms.specs.Rule.{Rule, rule}
-use Rattle.rules.specs.declared.indicator.Indicated.{Indicated}
 use Rattle.rules.specs.Detection.{detected}
 use Rattle.rules.specs.Indicator.{indicated, indicated_number, indicated_flag}
 use Rattle.rules.specs.Volume.{is_low_volume, is_high_volume, is_over_capacity}
@@ -51,25 +49,25 @@ is_withdrawn_read s es = any (has_read s.day s.value) (withdrawn es)
 
 -- ---- 1, 9, 10, 11: a read of that day stands, and then 11 at the latest
 -- "a standing read has the same day, type, value and indicator"
-unfoldable pub is_repeat : Submission → Slot → Bool
-is_repeat s (Read e) =
+unfoldable pub is_repeat : Submission → Option Entry → Bool
+is_repeat s (Some e) =
     eqb e.letter s.letter && (eqb e.value s.value && eqb e.indicator s.indicator)
-is_repeat s Empty = false
+is_repeat s None = false
 
 -- "9 (submitted type I or F)"
-unfoldable pub is_at_on_day : Submission → Slot → Bool
+unfoldable pub is_at_on_day : Submission → Option Entry → Bool
 is_at_on_day s same_day = is_there same_day && (eqb s.letter letter_i || is_final s.letter)
 
 -- "standing read of that day, other indicator"
-unfoldable pub is_other_indicator : Submission → Slot → Bool
-is_other_indicator s (Read e) = not (eqb e.indicator s.indicator)
-is_other_indicator s Empty = false
+unfoldable pub is_other_indicator : Submission → Option Entry → Bool
+is_other_indicator s (Some e) = not (eqb e.indicator s.indicator)
+is_other_indicator s None = false
 
 -- ---- 12 to 16
 -- "earlier than the last standing read"
-unfoldable pub is_back_dated : Submission → Slot → Bool
-is_back_dated s (Read r0) = ltb s.day r0.day
-is_back_dated s Empty = false
+unfoldable pub is_back_dated : Submission → Option Entry → Bool
+is_back_dated s (Some r0) = ltb s.day r0.day
+is_back_dated s None = false
 
 -- "none stands and type not I or O"
 unfoldable pub is_unopened : Submission → List Entry → Bool
@@ -84,12 +82,12 @@ unfoldable pub is_opening_indicated : Submission → Bool
 is_opening_indicated s = is_opening s.letter && not (eqb s.indicator indicator_not_set)
 
 -- "re-read 1, and no held read equal in day, value, type, indicator"
-unfoldable pub is_held_equal : Submission → Slot → Bool
-is_held_equal s (Read h) =
+unfoldable pub is_held_equal : Submission → Option Entry → Bool
+is_held_equal s (Some h) =
     has_read s.day s.value h && (eqb h.letter s.letter && eqb h.indicator s.indicator)
-is_held_equal s Empty = false
+is_held_equal s None = false
 
-unfoldable pub is_unheld_reread : Submission → Slot → Bool
+unfoldable pub is_unheld_reread : Submission → Option Entry → Bool
 is_unheld_reread s held = eqb s.reread 1 && not (is_held_equal s held)
 
 -- "standing and withdrawn entries number 50"; 02, 2: "16 counts to 49"
@@ -97,14 +95,14 @@ unfoldable pub is_full : Journal → Bool
 is_full j = eqb (kept j.entries) (most_entries j.head)
 
 -- ---- 17 to 21, "under Detection" and "under Volume"
-unfoldable pub is_denied : Indicated → Bool
+unfoldable pub is_denied : Result ℕ Refusal → Bool
 is_denied found = eqb (indicated_number found) read_ee
 
-unfoldable pub is_unclear : Indicated → Bool
+unfoldable pub is_unclear : Result ℕ Refusal → Bool
 is_unclear found = eqb (indicated_number found) read_ef
 
 -- what detection and the indicator make of a submission
-unfoldable pub indicated_in : Submission → Journal → Indicated
+unfoldable pub indicated_in : Submission → Journal → Result ℕ Refusal
 indicated_in s j = indicated (detected j.head.dials s (recent_of (standing j.entries))) s.indicator
 
 -- ---- 22, 23, 28: withdrawal
@@ -113,14 +111,14 @@ unfoldable pub is_not_standing : ℕ → ℕ → List Entry → Bool
 is_not_standing day value ss = not (any (has_read day value) ss)
 
 -- "it stands, but not last"
-unfoldable pub is_not_last : ℕ → ℕ → Slot → Bool
-is_not_last day value (Read r0) = not (has_read day value r0)
-is_not_last day value Empty = true
+unfoldable pub is_not_last : ℕ → ℕ → Option Entry → Bool
+is_not_last day value (Some r0) = not (has_read day value r0)
+is_not_last day value None = true
 
 -- 28: "withdrawal of the oldest kept read"
-unfoldable pub is_oldest_kept : ℕ → ℕ → Head → Slot → Bool
-is_oldest_kept day value head (Read oldest) = head.carried && has_read day value oldest
-is_oldest_kept day value head Empty = false
+unfoldable pub is_oldest_kept : ℕ → ℕ → Head → Option Entry → Bool
+is_oldest_kept day value head (Some oldest) = head.carried && has_read day value oldest
+is_oldest_kept day value head None = false
 
 -- ---- 27: fold
 -- "fewer than four stand or an F stands"
@@ -139,7 +137,7 @@ with_journal rules area = area_rules area ++ rules (journal_of area)
 -- "Submit checks 2 to 8; then, if a read of that day stands, 1, 9 (submitted type I or F), 10, 11; then 12, 13, 9 (I or O with a read standing,
 -- F with an F standing), 14 to 21." Each group by itself, and then the list.
 module _ (s : Submission) (j : Journal) where
-  abbrev pub same_day : Slot
+  abbrev pub same_day : Option Entry
   same_day = on_day s.day (standing j.entries)
 
   abbrev pub recent : Recent

@@ -1,6 +1,5 @@
 -- 00, demand 1: what a call writes and what a refusal answers, on EVERY register, of any length and with any bytes.
-use Rattle.std.specs.Prelude.{◌≡◌, true, false, List, ℕ, suc, pos, length, take, drop}
-use Rattle.terms.specs.declared.entry.Slot.TheVariants.{Read}
+use Rattle.std.specs.Prelude.{◌≡◌, true, false, List, ℕ, suc, pos, length, take, drop, Some}
 use Rattle.terms.specs.declared.submission.Submission.{Submission}
 use Rattle.terms.specs.Entry.{kind_held}
 use Rattle.terms.specs.Number.{accepted}
@@ -22,7 +21,7 @@ HasZeros (Reported r) = (r.standing ≡ 0) × (r.flagged ≡ 0) × (r.total ≡ 
 
 -- the held read is stored after the standing and withdrawn entries, and no other byte of the area is another
 pub record StoresHeld (s : Submission) (before after : List ℕ) : Type 0 where
-  pub held : held_of (journal_of after).entries ≡ Read (entry_for kind_held s (taken_flag s (journal_of before)))
+  pub held : held_of (journal_of after).entries ≡ Some (entry_for kind_held s (taken_flag s (journal_of before)))
   pub below : take (entry_offset before (kept (journal_of before).entries)) after ≡ take (entry_offset before (kept (journal_of before).entries)) before
   pub above : drop (entry_offset before (suc (kept (journal_of before).entries))) after ≡ drop (entry_offset before (suc (kept (journal_of before).entries))) before
 

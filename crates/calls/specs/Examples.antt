@@ -1,6 +1,6 @@
 -- 01, The two runs of demand 3, and 02, 2: examples that fix what the definitions mean, as the pairs at an edge do for the rules. The meter
 -- is at place 7, and the calls are those of case S with a few more.
-use Rattle.std.specs.Prelude.{◌≡◌, Bool, true, false, List, [], ◌∷◌, ◌++◌, ℕ, ℤ, pos, neg_ℤ}
+use Rattle.std.specs.Prelude.{◌≡◌, Bool, true, false, List, [], ◌∷◌, ◌++◌, ℕ, ℤ, pos, neg_ℤ, Some, None, Err}
 use Rattle.terms.specs.declared.entry.Entry.{Entry}
 use Rattle.terms.specs.declared.profile.Profile.TheVariants.{Ordinary, Pseudo}
 use Rattle.terms.specs.declared.submission.Submission.{Submission}
@@ -9,8 +9,7 @@ use Rattle.terms.specs.Entry.{kind_standing, kind_withdrawn, kind_held, indicato
 use Rattle.terms.specs.Letter.{letter_c, letter_f}
 use Rattle.terms.specs.Number.{accepted, no_meter, withdrawn_read, read_ef, low, high, not_last, plate as plate_number, no_fold, oldest_kept}
 use Rattle.terms.specs.Rule.{first_broken}
-use Rattle.terms.specs.declared.entry.Slot.TheVariants.{Read, Empty}
-use Rattle.rules.specs.declared.indicator.Indicated.TheVariants.{Unclear}
+use Rattle.terms.specs.declared.refusal.Refusal.TheVariants.{Ef}
 use Rattle.register.specs.declared.head.Carry.{Carry}
 use Rattle.register.specs.declared.head.Head.{Head}
 use Rattle.register.specs.Head.{no_carry, head_of, most_entries, offset_after}
@@ -246,8 +245,8 @@ pub record ExamplesHold : Type 0 where
   -- "Fold answers flag 0 and advance 0", on every area
   pub fold_zeros : (area : List ℕ) → HasZeros (fold_in area).reply
   -- "Folded reads don't exist for any check, detection or volume"
-  pub folded_not_detected : indicated_in over_the_turn pair ≡ Unclear
-  pub folded_not_recent : recent over_the_turn (alone (plate true (counts 9200 2 2))) ≡ record { last = Read (entry kind_standing 1360 9600); second = Empty; third = Empty }
+  pub folded_not_detected : indicated_in over_the_turn pair ≡ Err Ef
+  pub folded_not_recent : recent over_the_turn (alone (plate true (counts 9200 2 2))) ≡ record { last = Some (entry kind_standing 1360 9600); second = None; third = None }
   -- "a carry, kind 5, right after kind 1: first value (4 bytes), folded reads (2), flagged among them (2)", and not kind 5 later
   pub carry_read : head_of (1 ∷ 4 ∷ 136 ∷ 19 ∷ 0 ∷ 0 ∷ 5 ∷ 40 ∷ 35 ∷ 0 ∷ 0 ∷ 47 ∷ 0 ∷ 1 ∷ 0 ∷ []) ≡ plate true (counts 9000 47 1)
   pub no_carry_read : head_of (1 ∷ 4 ∷ 136 ∷ 19 ∷ 0 ∷ 0 ∷ 2 ∷ 5 ∷ 5 ∷ 5 ∷ 5 ∷ 5 ∷ 5 ∷ 5 ∷ 5 ∷ []) ≡ plate false no_carry

@@ -1,3 +1,4 @@
--- What only proofs and inner contracts need: the decision on a fold, apart from the writing, and flags of reads that may not exist.
+-- What only proofs and inner contracts need: what the decision on a fold answers, flags of reads that may not exist, and the area that is left.
 pub mod Decision
 pub mod Flags
+pub mod Left

@@ -2,77 +2,55 @@
 ghost use Rattle.std.specs.Prelude.{◌≡◌, false};
 ghost use Rattle.terms.specs.Entry.{recent_of};
 ghost use Rattle.journal.specs.Journal.{journal_of, standing};
-ghost use Rattle.judge.specs.Inner.Judged.{Counted};
 ghost use Rattle.calls.specs.Checks.{is_no_fold};
 ghost use Rattle.calls.specs.Fold.{carry_after, head_after};
 ghost use Rattle.fold.specs.Inner.Flags.{flag_in, flags_in};
 
-use judge::area::Summary;
+use crate::foldable::Foldable;
+use judge::sound::Sound;
 use reads::first::first;
 use register::head::{Carry, Head};
-use terms::entry::{Recent, Slot};
+use terms::entry::{Entry, Recent};
 
-#[derive(Clone, Copy)]
-pub struct Kept;
+// The last standing reads, which a fold keeps.
+const READS_KEPT: u8 = 3;
 
-impl Kept {
-    // The last standing reads, which a fold keeps.
-    pub const READS: u8 = 3;
-}
-
-fn flag_in(slot: Slot) -> u8
-    ensures { result ≡ flag_in slot }
+fn flag_in(read: Option<Entry>) -> u8
+    ensures { result ≡ flag_in read }
 {
-    match slot {
-        Slot::Read(e) => {
-            if e.flag == 1 {
-                return 1;
-            }
-            0
-        }
-        Slot::Empty => 0,
-    }
+    u8::from(read.is_some_and(|e| e.flag == 1))
 }
 
 // How many of the reads that are kept are flagged.
 fn flags_in(kept: Recent) -> u8
     ensures { result ≡ flags_in kept }
 {
-    let last = kept.last;
-    let second = kept.second;
-    let third = kept.third;
-    flag_in(last) + flag_in(second) + flag_in(third)
+    flag_in(kept.last) + flag_in(kept.second) + flag_in(kept.third)
 }
 
-// What is folded is all that was counted but the reads that are kept.
-fn carry_after(area: &[u8], t: Summary, kept: Recent) -> Carry
-    requires { Counted area.now t × (kept ≡ recent_of (standing (journal_of area.now).entries)) × (is_no_fold (standing (journal_of area.now).entries) ≡ false) }
-    ensures { result ≡ carry_after (journal_of area.now) }
+// What is folded is all that was counted but the reads that are kept. The journal is lent by itself: behind a field of another struct a proof does
+// not know that its day has two bytes.
+fn carry_after(journal: &Sound, kept: Recent) -> Carry
+    requires may_fold { is_no_fold (standing (journal_of journal.now.area.now).entries) ≡ false }
+    requires kept_is { kept ≡ recent_of (standing (journal_of journal.now.area.now).entries) }
+    ensures { result ≡ carry_after (journal_of journal.now.area.now) }
 {
-    let head = t.head;
-    let carry = head.carry;
-    let counts = t.counts;
-    let folded = (counts.standing - Kept::READS) as u16;
-    let flagged = (counts.flagged - flags_in(kept)) as u16;
+    let folded = journal.summary.counts.standing - READS_KEPT;
+    let flagged = journal.summary.counts.flagged - flags_in(kept);
     Carry {
-        first: first(t),
-        folded: carry.folded + folded,
-        flagged: carry.flagged + flagged,
+        first: first(journal),
+        folded: journal.summary.head.carry.folded + u16::from(folded),
+        flagged: journal.summary.head.carry.flagged + u16::from(flagged),
     }
 }
 
-pub(crate) fn head_after(area: &[u8], t: Summary, kept: Recent) -> Head
-    requires { Counted area.now t × (kept ≡ recent_of (standing (journal_of area.now).entries)) × (is_no_fold (standing (journal_of area.now).entries) ≡ false) }
-    ensures { result ≡ head_after (journal_of area.now) }
+pub(crate) fn head_after(foldable: &Foldable, kept: Recent) -> Head
+    requires { kept ≡ recent_of (standing (journal_of foldable.now.journal.area.now).entries) }
+    ensures { result ≡ head_after (journal_of foldable.now.journal.area.now) }
 {
-    let head = t.head;
-    let profile = head.profile;
-    let carry = carry_after(area, t, kept);
     Head {
-        profile,
-        dials: head.dials,
-        capacity: head.capacity,
         carried: true,
-        carry,
+        carry: carry_after(&foldable.journal, kept),
+        ..foldable.journal.summary.head
     }
 }

@@ -1,51 +1,34 @@
 // Whether a journal may be folded.
 ghost use Rattle.std.specs.Prelude.{◌≡◌, length};
 ghost use Rattle.register.specs.Area.{area_bytes};
-ghost use Rattle.journal.specs.Journal.{Journal, standing};
-ghost use Rattle.judge.specs.Inner.Judged.{summary_of};
+ghost use Rattle.journal.specs.Journal.{journal_of, standing};
 ghost use Rattle.calls.specs.Checks.{is_no_fold};
 ghost use Rattle.fold.specs.Inner.Decision.{Decides};
 
-use judge::area::{Judged, Summary, judge_area};
-use terms::number::Number;
+use crate::foldable::Foldable;
+use judge::area::judge_area;
+use judge::sound::Sound;
+use terms::refusal::Refusal;
 
-// A refusal, or what was counted of the journal that the call is to change.
-#[derive(Clone, Copy)]
-pub enum Decided {
-    Refused(u8),
-    Taken(Summary),
-}
+// The standing reads that a fold asks for.
+const LEAST_STANDING: u8 = 4;
 
-#[derive(Clone, Copy)]
-struct Least;
-
-impl Least {
-    // The standing reads that a fold asks for.
-    const STANDING: u8 = 4;
-}
-
-fn is_no_fold(t: Summary) -> bool
-    ensures { (j : Journal) → t ≡ summary_of j → result ≡ is_no_fold (standing j.entries) }
+fn is_no_fold(journal: &Sound) -> bool
+    ensures { result ≡ is_no_fold (standing (journal_of journal.now.area.now).entries) }
 {
-    let counts = t.counts;
-    (counts.standing < Least::STANDING) | t.ended
+    (journal.summary.counts.standing < LEAST_STANDING) | journal.summary.ended
 }
 
-// 3, 4, 27, or what was counted of the journal to change.
-pub(crate) fn decide_fold(area: &[u8]) -> Decided
+// The journal to change, or 3, 4 or 27.
+pub(crate) fn decide_fold(area: &[u8]) -> Result<Foldable<'_>, Refusal>
     requires { length area.now ≡ area_bytes }
     ensures { Decides area.now result }
 {
-    let judgement = judge_area(area, 0, 0);
-    let found = judgement.found;
-    match found {
-        Judged::Zero => Decided::Refused(Number::NO_METER),
-        Judged::Damaged => Decided::Refused(Number::DAMAGED),
-        Judged::Sound(t) => {
-            if is_no_fold(t) {
-                return Decided::Refused(Number::NO_FOLD);
-            }
-            Decided::Taken(t)
-        }
+    let judged = judge_area(area, 0, 0)?;
+    if is_no_fold(&judged.journal) {
+        return Err(Refusal::NoFold);
     }
+    Ok(Foldable {
+        journal: judged.journal,
+    })
 }

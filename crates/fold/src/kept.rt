@@ -6,7 +6,7 @@ ghost use Rattle.journal.specs.Journal.{entries_to, standing};
 
 use journal::order::is_standing;
 use register::read::entry_after;
-use terms::entry::{Entry, Recent, Slot};
+use terms::entry::{Entry, Recent};
 
 // With one entry more.
 fn newer(kept: Recent, e: Entry) -> Recent
@@ -15,12 +15,10 @@ fn newer(kept: Recent, e: Entry) -> Recent
     if !is_standing(e) {
         return kept;
     }
-    let last = kept.last;
-    let second = kept.second;
     Recent {
-        last: Slot::Read(e),
-        second: last,
-        third: second,
+        last: Some(e),
+        second: kept.last,
+        third: kept.second,
     }
 }
 
@@ -29,16 +27,9 @@ fn newer(kept: Recent, e: Entry) -> Recent
 pub(crate) fn kept_of(body: &[u8], m: u8) -> Recent
     ensures { result ≡ recent_of (standing (entries_to m body.now)) }
 {
-    let mut kept = Recent {
-        last: Slot::Empty,
-        second: Slot::Empty,
-        third: Slot::Empty,
-    };
-    let mut k: u8 = 0;
-    while k < m {
-        let e = entry_after(body, k);
-        kept = newer(kept, e);
-        k += 1;
+    let mut kept = Recent::NONE;
+    for k in 0..m {
+        kept = newer(kept, entry_after(body, k));
     }
     kept
 }

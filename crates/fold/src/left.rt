@@ -1,15 +1,48 @@
 // The entries that a fold leaves, written one after another.
-ghost use Rattle.std.specs.Prelude.{◌≡◌, List, ℕ, ◌+◌, ◌≤◌, ◌<◌, length};
+ghost use Rattle.std.specs.Prelude.{◌≡◌, List, [], ◌∷◌, ◌<◌};
 ghost use Rattle.terms.specs.declared.entry.Entry.{Entry};
-ghost use Rattle.terms.specs.Entry.{keep_if, those};
-ghost use Rattle.journal.specs.Journal.{entries_to, put_entries};
+ghost use Rattle.terms.specs.Entry.{those};
+ghost use Rattle.journal.specs.Journal.{entries_to};
 ghost use Rattle.calls.specs.Fold.{stays};
+ghost use Rattle.fold.specs.Inner.Left.{Holds};
 
 use journal::order::{is_held, is_standing, is_withdrawn};
+use register::area::Layout;
 use register::head::{Head, offset_after};
 use register::read::entry_after;
-use register::write::put_entry;
+use register::write::{put_entry, put_head};
 use terms::entry::Entry;
+
+// An area of its own: a head, the entries that are written so far, and zeros to the end.
+#[derive(Clone, Copy)]
+pub(crate) struct Left {
+    pub area: [u8; Layout::AREA_BYTES],
+    head: Head,
+    count: u8,
+}
+
+impl Left {
+    fn new(head: Head) -> Self
+        ensures { Holds head [] result }
+    {
+        let mut area = [0; Layout::AREA_BYTES];
+        put_head(&mut area, head);
+        Left {
+            area,
+            head,
+            count: 0,
+        }
+    }
+
+    fn push(&mut self, e: Entry)
+        requires { self.old.count < 255 }
+        ensures { (head : Head) (es : List Entry) → Holds head es self.old → Holds head (e ∷ es) self.new }
+    {
+        let offset = offset_after(self.head, self.count);
+        put_entry(&mut self.area, offset, e);
+        self.count += 1;
+    }
+}
 
 // By the day of the oldest read that is kept. A withdrawn read that is later stays, so that it is still known when it comes again.
 fn stays(oldest: u16, e: Entry) -> bool
@@ -18,27 +51,16 @@ fn stays(oldest: u16, e: Entry) -> bool
     is_held(e) | ((is_standing(e) & (oldest <= e.day)) | (is_withdrawn(e) & (oldest < e.day)))
 }
 
-// One entry more, if it stays, after `count` others. Answers how many there are then.
-fn put_next(left: &mut [u8], head: Head, oldest: u16, count: u8, e: Entry) -> u8
-    requires { count < 255 }
-    ensures { (result ≤ count + 1) × ((area : List ℕ) (es : List Entry) → count ≡ length es → left.old ≡ put_entries area head es → (result ≡ length (keep_if (stays oldest e) e es)) × (left.new ≡ put_entries area head (keep_if (stays oldest e) e es))) }
+// A head, and after it those of the first m entries of a body that stay.
+pub(crate) fn left_of(head: Head, body: &[u8], m: u8, oldest: u16) -> Left
+    ensures { Holds head (those (stays oldest) (entries_to m body.now)) result }
 {
-    if !stays(oldest, e) {
-        return count;
-    }
-    put_entry(left, offset_after(head, count), e);
-    count + 1
-}
-
-// Those of the first m entries of a body.
-pub(crate) fn put_left(left: &mut [u8], head: Head, body: &[u8], m: u8, oldest: u16)
-    ensures { left.new ≡ put_entries left.old head (those (stays oldest) (entries_to m body.now)) }
-{
-    let mut count: u8 = 0;
-    let mut k: u8 = 0;
-    while k < m {
+    let mut left = Left::new(head);
+    for k in 0..m {
         let e = entry_after(body, k);
-        count = put_next(left, head, oldest, count, e);
-        k += 1;
+        if stays(oldest, e) {
+            left.push(e);
+        }
     }
+    left
 }

@@ -5,5 +5,6 @@
 mod carry;
 mod decide;
 pub mod fold;
+mod foldable;
 mod kept;
 mod left;

@@ -1,10 +1,10 @@
 -- A sheet is read to its end or to the first byte that it may not have, and either way its calls are those of what was read.
 use Rattle.std.proofs.Common.{◌≡◌, ℕ, ◌+◌, ◌<◌, List, [], ◌∷◌, length, arith, ap, ◌∙◌, sym, length-append, append-nil}
-use Rattle.std.specs.Prelude.{Option, Some, None, Result, Ok, Err, IfOk, IfSome, take}
+use Rattle.std.specs.Prelude.{Option, Some, None, Result, Ok, Err, IfOk, IfSome, OnOk, take}
 use Rattle.std.specs.Io.{ReadsAtMost}
 use Rattle.std.specs.Io.KnownBytes.{Consumes, IsAtEnd}
 use borrow.Author.Tests.{lt-ltb}
-use Rattle.sheet.specs.Sheet.{sheet_most, split_of}
+use Rattle.sheet.specs.Sheet.{sheet_most, Split, split_of}
 
 -- sheets that are too long are one fault each, and no call
 over_long : (sheet sheet' : List ℕ) → sheet_most < length sheet → sheet_most < length sheet' → split_of sheet ≡ split_of sheet'
@@ -23,3 +23,9 @@ pub whole_read : {E : Type 0} (r : Result ℕ E) (known rest : Option (List ℕ)
 whole_read (Err e) known rest room size within bytes end = tt
 whole_read (Ok n) known rest room size within bytes end =
     split_of_read known rest (take n room) bytes (λ h. end (omega (arith, within, size)))
+
+-- what a program makes of the calls and the fault of what was read, it makes of those of the whole sheet
+pub of_whole : {E : Type 0} (P : Split → Type 0) (r : Result (Unit {0}) E) (known : Option (List ℕ)) (read : List ℕ) → IfSome known (λ sheet. split_of read ≡ split_of sheet) → OnOk r (P (split_of read)) → OnOk r (IfSome known (λ sheet. P (split_of sheet)))
+of_whole P (Err e) known read same made = tt
+of_whole P (Ok u) None read same made = tt
+of_whole P (Ok u) (Some sheet) read same made = rw (← same) made

@@ -6,10 +6,11 @@ ghost use Rattle.std.specs.Io.{ReadsAtMost};
 ghost use Rattle.std.specs.Io.KnownBytes.{Consumes, IsAtEnd};
 ghost use Rattle.sheet.specs.Sheet.{split_of};
 
-use sheet::size::SheetSize;
+use sheet::size::SHEET_ROOM;
 use std::io::{self, Read};
 
-// Reads until the room is full or the reader ends, and answers how many bytes it put at the start of the room.
+// Reads until the room is full or the reader ends, and answers how many bytes it put at the start of the room. `read_exact` says nothing of a
+// reader that ends before, and `read_to_end` needs a heap.
 pub fn read_full<R: Read>(reader: &mut R, room: &mut [u8]) -> io::Result<usize>
     ensures within { ReadsAtMost result room.new }
     ensures bytes { IfOk result (λ n. Consumes (R.remaining reader.old) (R.remaining reader.new) (take n room.new)) }
@@ -28,10 +29,7 @@ pub fn read_full<R: Read>(reader: &mut R, room: &mut [u8]) -> io::Result<usize>
 
 // Reads a sheet to its end, or one that is too long to the first byte that it may not have. What was read has the calls of the whole sheet, and
 // the fault if there is one.
-pub fn read_sheet<R: Read>(
-    reader: &mut R,
-    room: &mut [u8; SheetSize::ROOM_BYTES],
-) -> io::Result<usize>
+pub fn read_sheet<R: Read>(reader: &mut R, room: &mut [u8; SHEET_ROOM]) -> io::Result<usize>
     ensures within { ReadsAtMost result room.new }
     ensures whole { IfOk result (λ n. IfSome (R.remaining reader.old) (λ sheet. split_of (take n room.new) ≡ split_of sheet)) }
 {

@@ -1,4 +1,5 @@
 -- Whether one more entry keeps the order: each clause over the longer list is what the entry adds and the clause over the shorter.
+use Rattle.std.specs.Prelude.{Option, Some, None}
 use mathlib.Core.Path.{◌≡◌, refl, ap}
 use mathlib.Core.Bool.{Bool, true, false, not, ◌&&◌, ◌||◌, and_assoc, and_comm, cond, and-true, and-false}
 use mathlib.Core.List.{List, [], ◌∷◌}
@@ -7,8 +8,6 @@ use native.Mathlib.Omega.{arith}
 use borrow.Author.Tests.{ltb-true, lt-ltb, eqb-true}
 use Rattle.terms.specs.declared.entry.Entry.{Entry}
 use Rattle.register.specs.declared.head.Head.{Head}
-use Rattle.terms.specs.declared.entry.Slot.{Slot}
-use Rattle.terms.specs.declared.entry.Slot.TheVariants.{Read, Empty}
 use Rattle.terms.specs.Entry.{kind_standing, is_standing, is_held, keep_if, those, slot_at}
 use Rattle.terms.specs.Letter.{is_opening, is_holdable}
 use Rattle.register.specs.Entries.{entry_start, entry_at}
@@ -75,7 +74,7 @@ module _ (e : Entry) where
   held_right ss d = rw (← and_assoc (exists ss) (every (is_later e) ss) (no_second_final e ss), after_newest ss d)
 
 -- none of the entries is held: the newest is not, and those before it are as they should be
-no_held : (e : Entry) (held others right : Bool) → not (held || others) ≡ not (is_there (slot_if held e Empty)) && (not others && (not held || right))
+no_held : (e : Entry) (held others right : Bool) → not (held || others) ≡ not (is_there (slot_if held e None)) && (not others && (not held || right))
 unfolding is_there
 no_held e true o r = refl
 no_held e false true r = refl
@@ -128,9 +127,9 @@ choose false h x y q = refl
 chosen : (r t b h x y : Bool) → (b ≡ true → h ≡ false) → r && (t && ((not b || x) && (not h || y))) ≡ (r && t) && cond b x (not h || y)
 chosen r t b h x y q = rw (choose b h x y q, and_assoc)
 
-pub by_numbers : (head : Head) (e : Entry) (last held : Slot) (ended : Bool) → may_follow head e last held ended ≡ follows_by head e (is_there last) (day_of last) (is_there held) ended
+pub by_numbers : (head : Head) (e : Entry) (last held : Option Entry) (ended : Bool) → may_follow head e last held ended ≡ follows_by head e (is_there last) (day_of last) (is_there held) ended
 unfolding may_follow may_stand is_after follows_by stands_by is_there day_of
-by_numbers head e (Read s) held ended =
+by_numbers head e (Some s) held ended =
     let one = not (is_final_read e && ended) in
     chosen
     (is_read head e)
@@ -140,7 +139,7 @@ by_numbers head e (Read s) held ended =
     ((is_later e s && not (is_opening e.letter)) && one)
     (is_holdable e.letter && (is_later e s && one))
     (stands_unheld e)
-by_numbers head e Empty held ended =
+by_numbers head e None held ended =
     let one = not (is_final_read e && ended) in
     chosen
     (is_read head e)

@@ -1,8 +1,7 @@
 -- 01, The register: examples that fix when a journal is sound. Beside a sound one stands a neighbour that differs in one clause alone and is not.
 -- Lists of entries have the newest first.
-use Rattle.std.specs.Prelude.{◌≡◌, Bool, true, false, List, [], ◌∷◌, ◌++◌, ℕ, replicate}
+use Rattle.std.specs.Prelude.{◌≡◌, Bool, true, false, List, [], ◌∷◌, ◌++◌, ℕ, replicate, Some, None}
 use Rattle.terms.specs.declared.entry.Entry.{Entry}
-use Rattle.terms.specs.declared.entry.Slot.TheVariants.{Read, Empty}
 use Rattle.terms.specs.declared.profile.Profile.TheVariants.{Ordinary}
 use Rattle.terms.specs.Letter.{letter_i, letter_o, letter_f, letter_c, letter_u, letter_r, letter_t, letter_s, letter_x, letter_y, letter_e, is_known}
 use Rattle.terms.specs.Tables.{bytes}
@@ -147,10 +146,10 @@ pub record SoundExamplesHold : Type 0 where
   pub no_first : is_sound (two_bytes ++ replicate 20 0) ≡ false
   -- what is asked of a journal's entries
   pub kept_entries : kept all ≡ 5
-  pub held_entry_row : held_of all ≡ Read (held 500 letter_c)
-  pub none_held : held_of two ≡ Empty
-  pub on_its_day : on_day 200 (standing all) ≡ Read (stands 200 letter_c)
-  pub on_a_withdrawn_day : on_day 400 (standing all) ≡ Empty
+  pub held_entry_row : held_of all ≡ Some (held 500 letter_c)
+  pub none_held : held_of two ≡ None
+  pub on_its_day : on_day 200 (standing all) ≡ Some (stands 200 letter_c)
+  pub on_a_withdrawn_day : on_day 400 (standing all) ≡ None
   pub first_value_row : first_value (standing all) ≡ 100
-  pub oldest : oldest_of (standing all) ≡ Read (stands 100 letter_i)
+  pub oldest : oldest_of (standing all) ≡ Some (stands 100 letter_i)
   pub newest_place : newest_at all ≡ 3

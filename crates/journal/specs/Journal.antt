@@ -1,8 +1,6 @@
 -- 01, The register: what an area of 512 bytes means. Lists of entries have the newest first.
-use Rattle.std.specs.Prelude.{Bool, true, false, ◌||◌, cond, List, [], ◌∷◌, ℕ, zero, suc, eqb, length, replicate}
+use Rattle.std.specs.Prelude.{Bool, true, false, ◌||◌, cond, List, [], ◌∷◌, ℕ, zero, suc, eqb, length, replicate, Option, Some, None}
 use Rattle.terms.specs.declared.entry.Entry.{Entry}
-use Rattle.terms.specs.declared.entry.Slot.{Slot}
-use Rattle.terms.specs.declared.entry.Slot.TheVariants.{Read, Empty}
 use Rattle.terms.specs.Entry.{is_standing, is_withdrawn, is_held, those}
 use Rattle.register.specs.declared.head.Head.{Head}
 use Rattle.register.specs.Area.{area_bytes}
@@ -45,28 +43,28 @@ is_kept e = is_standing e || is_withdrawn e
 abbrev pub kept : List Entry → ℕ
 kept es = length (those is_kept es)
 
-abbrev pub slot_if : Bool → Entry → Slot → Slot
-slot_if true e other = Read e
+abbrev pub slot_if : Bool → Entry → Option Entry → Option Entry
+slot_if true e other = Some e
 slot_if false e other = other
 
 -- "A held read is the last entry"
-unfoldable pub held_of : List Entry → Slot
-held_of [] = Empty
-held_of (e ∷ es) = slot_if (is_held e) e Empty
+unfoldable pub held_of : List Entry → Option Entry
+held_of [] = None
+held_of (e ∷ es) = slot_if (is_held e) e None
 
 -- whether a read exists
-unfoldable pub is_there : Slot → Bool
-is_there (Read e) = true
-is_there Empty = false
+unfoldable pub is_there : Option Entry → Bool
+is_there (Some e) = true
+is_there None = false
 
 -- the day of a read, and 0 where there is none
-unfoldable pub day_of : Slot → ℕ
-day_of (Read e) = e.day
-day_of Empty = 0
+unfoldable pub day_of : Option Entry → ℕ
+day_of (Some e) = e.day
+day_of None = 0
 
 -- the standing read of a day
-unfoldable pub on_day : ℕ → List Entry → Slot
-on_day day [] = Empty
+unfoldable pub on_day : ℕ → List Entry → Option Entry
+on_day day [] = None
 on_day day (s ∷ ss) = slot_if (eqb s.day day) s (on_day day ss)
 
 -- "flag (1 byte, 1 if rollover, else 0)"
@@ -80,9 +78,9 @@ first_value (s ∷ []) = s.value
 first_value (s ∷ t ∷ ss) = first_value (t ∷ ss)
 
 -- the first standing read: in a journal with a carry, the oldest that was kept
-unfoldable pub oldest_of : List Entry → Slot
-oldest_of [] = Empty
-oldest_of (s ∷ []) = Read s
+unfoldable pub oldest_of : List Entry → Option Entry
+oldest_of [] = None
+oldest_of (s ∷ []) = Some s
 oldest_of (s ∷ t ∷ ss) = oldest_of (t ∷ ss)
 
 -- how many entries come before the last standing one

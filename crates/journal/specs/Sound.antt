@@ -1,9 +1,7 @@
 -- 01, The register: when a journal is sound. "Anything else non-zero is damaged."
-use Rattle.std.specs.Prelude.{Bool, true, false, not, ◌&&◌, ◌||◌, List, [], ◌∷◌, ℕ, eqb, leb, ltb, drop}
+use Rattle.std.specs.Prelude.{Bool, true, false, not, ◌&&◌, ◌||◌, List, [], ◌∷◌, ℕ, eqb, leb, ltb, drop, Option, Some, None}
 use Rattle.arithmetic.specs.Powers.{ten_to}
 use Rattle.terms.specs.declared.entry.Entry.{Entry}
-use Rattle.terms.specs.declared.entry.Slot.{Slot}
-use Rattle.terms.specs.declared.entry.Slot.TheVariants.{Read, Empty}
 use Rattle.terms.specs.Letter.{is_opening, is_final, is_holdable}
 use Rattle.terms.specs.Entry.{indicator_not_set, indicator_true, is_standing, is_withdrawn, is_held}
 use Rattle.terms.specs.Profile.{meter_kind, takes}
@@ -115,11 +113,11 @@ is_held_right (e ∷ es) = not (any is_held es) && (not (is_held e) || may_be_he
 
 -- 02, 2: "A carry is sound if its value is below 10^n, flagged is at most folded, folded is at least 1 and below the oldest kept day, and a
 -- read stands."
-unfoldable pub is_before : ℕ → Slot → Bool
-is_before folded (Read oldest) = ltb folded oldest.day
-is_before folded Empty = false
+unfoldable pub is_before : ℕ → Option Entry → Bool
+is_before folded (Some oldest) = ltb folded oldest.day
+is_before folded None = false
 
-unfoldable pub is_carry : Head → Slot → Bool
+unfoldable pub is_carry : Head → Option Entry → Bool
 is_carry head oldest =
     holds head head.carry.first
     && (leb head.carry.flagged head.carry.folded

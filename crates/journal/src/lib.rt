@@ -5,4 +5,3 @@ pub mod carry;
 pub mod claims;
 pub mod order;
 pub mod plate;
-pub mod slot;

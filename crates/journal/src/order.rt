@@ -14,25 +14,25 @@ use terms::submission::Indicator;
 pub fn is_standing(e: Entry) -> bool
     ensures { result ≡ is_standing e }
 {
-    e.kind == Kind::STANDING
+    e.kind == Kind::Standing as u8
 }
 
 pub fn is_withdrawn(e: Entry) -> bool
     ensures { result ≡ is_withdrawn e }
 {
-    e.kind == Kind::WITHDRAWN
+    e.kind == Kind::Withdrawn as u8
 }
 
 pub fn is_held(e: Entry) -> bool
     ensures { result ≡ is_held e }
 {
-    e.kind == Kind::HELD
+    e.kind == Kind::Held as u8
 }
 
 pub fn is_final(e: Entry) -> bool
     ensures { result ≡ is_final_read e }
 {
-    e.letter == Letter::FINAL
+    e.letter == Letter::Final as u8
 }
 
 pub fn has_read(day: u16, value: u32, e: Entry) -> bool
@@ -55,8 +55,8 @@ fn is_in_range(head: Head, limit: u32, e: Entry) -> bool
     if !takes(profile, e.letter) {
         return false;
     }
-    (e.indicator <= Indicator::TRUE)
-        & ((e.flag <= 1) & (!is_opening(e.letter) | (e.indicator == Indicator::NOT_SET)))
+    (e.indicator <= Indicator::True as u8)
+        & ((e.flag <= 1) & (!is_opening(e.letter) | (e.indicator == Indicator::NotSet as u8)))
 }
 
 fn is_read(head: Head, limit: u32, e: Entry) -> bool

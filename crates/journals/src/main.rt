@@ -6,7 +6,7 @@ ghost use Rattle.std.specs.Prelude.{IfSome, OnOk};
 ghost use Rattle.std.specs.Io.KnownBytes.{Appends};
 ghost use Rattle.calls.specs.Play.{register_after, zero_register};
 ghost use Rattle.sheet.specs.Sheet.{split_of};
-ghost use Rattle.journals.specs.Text.{byte_text, bytes_text, line_of, journals_text};
+ghost use Rattle.journals.specs.Text.{bytes_text, line_of, journals_text};
 
 use input::read_sheet;
 use meter::part::journal;
@@ -19,25 +19,19 @@ use std::io::{self, Read, Write};
 // How many bytes there is room for of the lines of the calls.
 const LINES_BYTES: usize = 4096;
 
-fn print_byte<W: Write>(byte: u8, output: &mut W) -> io::Result<()>
-    ensures { OnOk result (Appends (W.contents output.old) (W.contents output.new) (byte_text byte)) }
-{
-    write!(output, "{byte:02x}")
-}
-
 fn print_bytes<W: Write>(bytes: &[u8], output: &mut W) -> io::Result<()>
     ensures { OnOk result (Appends (W.contents output.old) (W.contents output.new) (bytes_text bytes.now)) }
 {
     for byte in bytes {
-        print_byte(*byte, output)?;
+        write!(output, "{byte:02x}")?;
     }
     Ok(())
 }
 
-fn print_journal<W: Write>(place: u64, part: &[u8], output: &mut W) -> io::Result<()>
+fn print_journal<W: Write>(place: u16, part: &[u8], output: &mut W) -> io::Result<()>
     ensures { OnOk result (Appends (W.contents output.old) (W.contents output.new) (line_of place part.now)) }
 {
-    if part.len() == 0 {
+    if part.is_empty() {
         return Ok(());
     }
     write!(output, "{place} ")?;
@@ -49,7 +43,7 @@ fn print_journals<W: Write>(register: &[u8], output: &mut W) -> io::Result<()>
     ensures { OnOk result (Appends (W.contents output.old) (W.contents output.new) (journals_text register.now)) }
 {
     for place in 0..Layout::AREAS {
-        print_journal(place as u64, journal(register, place), output)?;
+        print_journal(place, journal(register, place), output)?;
     }
     Ok(())
 }

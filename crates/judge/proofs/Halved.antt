@@ -1,142 +1,149 @@
--- The standing entries by their places: one place more, what halving finds, and what their marks rule out.
-use mathlib.Core.Path.{◌≡◌, refl, sym, ◌∙◌}
+-- The standing entries in their order: what halving finds among them, and what their marks rule out.
+use mathlib.Core.Path.{◌≡◌, refl, ap, ◌∙◌}
 use mathlib.Core.Bool.{Bool, true, false, not, ◌&&◌, and-false}
 use mathlib.Core.List.{List, [], ◌∷◌}
 use Prim.Native.Nat.{ℕ, zero, suc, ◌+◌, ◌-◌, ◌≤◌, ◌<◌}
 use native.Mathlib.Numerals.{add-one}
 use native.Mathlib.Omega.{arith}
-use borrow.Author.Tests.{ltb-true, eqb-true, eqb-false, eq-eqb, ne_eqb}
-use lib.Dec.{eqb}
-use lib.ListN.{length, get_or, set}
-use lib.Seq.{get_or-set_same, get_or-set_other}
+use borrow.Author.Tests.{ltb-true, ltb-false, eqb-true, eqb-false, ne_eqb}
+use lib.Dec.{eqb, ltb}
+use lib.ListN.{length, get_or, set, take}
+use Rattle.std.specs.Prelude.{reverse}
+use Rattle.std.specs.List.Sorted.{IsPartitionedBy, IsPartitionPoint}
+use Rattle.std.proofs.Math.Seq.{take_all, take-suc, take-suc-set}
+use Rattle.std.proofs.lemmas.List.{reverse-append}
+use Rattle.std.proofs.lemmas.List.Sums.{fold_more}
+use Rattle.std.proofs.lemmas.List.Sorted.{IsNonDecreasingBy-from_default, IsPartitionedBy-ltb}
 use Rattle.terms.specs.declared.entry.Entry.{Entry}
-use Rattle.terms.specs.Entry.{kind_standing, is_standing, is_withdrawn, keep_if, those, slot_at}
-use Rattle.register.specs.Bytes.{byte_at}
-use Rattle.register.specs.Entries.{entry_start, entry_at}
+use Rattle.terms.specs.Entry.{is_withdrawn, keep_if, slot_at}
+use Rattle.register.specs.Entries.{entry_start, entry_at, zero_entry}
 use Rattle.journal.specs.Journal.{entries_to, withdrawn, day_of}
 use Rattle.journal.specs.Sound.{any, every, has_read, are_apart, days_rise, is_later}
-use Rattle.judge.specs.Inner.Halving.{placed_at, placed, Places, Between, value_marks}
-use Rattle.judge.specs.Inner.Marks.{is_marked}
+use Rattle.judge.specs.Inner.Halving.{value_marks}
+use Rattle.judge.specs.Inner.Marks.{is_marked, mark_on}
 use Rattle.journal.proofs.Bools.{both, or_none}
 use Rattle.journal.proofs.Entries.{those_more}
 use Rattle.judge.proofs.Bits.{unmarked}
 use Rattle.judge.proofs.Clashes.{none_stands}
 
--- ---- one place more
--- a place that is noted changes none before it
-placed_kept : (body places : List ℕ) (n k j : ℕ) → j ≤ n → placed body (set places n k) j ≡ placed body places j
-unfolding placed
-placed_kept body places n k zero h = refl
-placed_kept body places n k (suc j) h =
-    let other : j ≡ n → ⊥ = λ e. omega arith in
-    rw (get_or-set_other places n j k 0 other, placed_kept body places n k j (omega arith))
+-- one more noted after n
+pub noted : (room : List Entry) (n : ℕ) (e : Entry) → n < length room → reverse (take (n + 1) (set room n e)) ≡ e ∷ reverse (take n room)
+noted room n e h = rw (add-one n, take-suc-set room n e h) (reverse-append (take n room) (e ∷ []))
 
-pub places_none : (body places : List ℕ) → Places body 0 places 0
-unfolding placed entries_to those
-places_none body places = record { few = omega arith; below = λ i h. absurd (omega arith); same = refl }
-
-module _ (body places : List ℕ) (k n : ℕ) (old : Places body k places n) where
-  pub places_stand : n < length places → byte_at body (entry_start k) ≡ kind_standing → Places body (k + 1) (set places n k) (n + 1)
-  unfolding placed is_standing entry_at
-  places_stand room kind =
-      record {
-        few = omega (arith, old.few);
-        below = λ i h. below i h (eqb i n) refl;
-        same =
-            rw (add-one n, get_or-set_same places n k 0 room, placed_kept body places n k n (omega arith), old.same)
-            (sym (those_more k body is_standing refl (sym (eq-eqb _ _ kind))));
-      } where
-        below : (i : ℕ) → i < n + 1 → (b : Bool) → eqb i n ≡ b → get_or (set places n k) i 0 < k + 1
-        below i h true e = rw (eqb-true i n e, get_or-set_same places n k 0 room) (omega arith)
-        below i h false e =
-            let other : i ≡ n → ⊥ = eqb-false i n e in
-            rw (get_or-set_other places n i k 0 other) (omega (arith, old.below i (omega arith)))
-
-  pub places_pass : (byte_at body (entry_start k) ≡ kind_standing → ⊥) → Places body (k + 1) places n
-  unfolding is_standing entry_at
-  places_pass kind =
-      record {
-        few = omega (arith, old.few);
-        below = λ i h. omega (arith, old.below i h);
-        same = old.same ∙ sym (those_more k body is_standing refl (sym (ne_eqb _ _ kind)));
-      }
-
--- ---- what halving finds
 last : (n : ℕ) → suc n - 1 ≡ n
 last n = omega arith
 
-module _ (body places : List ℕ) where
-  placed_rise : (n : ℕ) → days_rise (placed body places (suc n)) ≡ true → days_rise (placed body places n) ≡ true
-  unfolding placed days_rise
-  placed_rise zero r = refl
-  placed_rise (suc n) r = (both (is_later (placed_at body places (suc n)) (placed_at body places n)) _ r).1
+module _ (ss : List Entry) where
+  abbrev at : ℕ → Entry
+  at i = get_or ss i zero_entry
 
-  -- an earlier place has an earlier day
-  earlier : (n i : ℕ) → days_rise (placed body places (suc n)) ≡ true → i < n → (placed_at body places i).day < (placed_at body places n).day
-  unfolding placed days_rise
+  -- the first n of them, the last first
+  back : ℕ → List Entry
+  back zero = []
+  back (suc n) = at n ∷ back n
+
+  back_is : (n : ℕ) → n ≤ length ss → back n ≡ reverse (take n ss)
+  unfolding back
+  back_is zero h = refl
+  back_is (suc n) h = rw (take-suc ss n zero_entry (omega arith), reverse-append (take n ss) (at n ∷ []), back_is n (omega arith))
+
+  back_all : back (length ss) ≡ reverse ss
+  back_all = back_is (length ss) (omega arith) ∙ ap reverse (take_all (length ss) ss (omega arith))
+
+  back_rise : (n : ℕ) → days_rise (back (suc n)) ≡ true → days_rise (back n) ≡ true
+  unfolding back days_rise
+  back_rise zero r = refl
+  back_rise (suc n) r = (both (is_later (at (suc n)) (at n)) _ r).1
+
+  rise_to : (n j : ℕ) → j ≤ n → days_rise (back n) ≡ true → days_rise (back j) ≡ true
+  rise_to zero j h r =
+      let e : j ≡ 0 = omega arith in
+      rw e r
+  rise_to (suc n) j h r = cases (λ less. rise_to n j less (back_rise n r)) (eqb j (suc n)) refl where
+    cases : (j ≤ n → days_rise (back j) ≡ true) → (b : Bool) → eqb j (suc n) ≡ b → days_rise (back j) ≡ true
+    cases rest true e = rw (eqb-true j (suc n) e) r
+    cases rest false e =
+        let other : j ≡ suc n → ⊥ = eqb-false j (suc n) e in
+        rest (omega arith)
+
+  -- an earlier one has an earlier day
+  earlier : (n i : ℕ) → days_rise (back (suc n)) ≡ true → i < n → (at i).day < (at n).day
+  unfolding back days_rise
   earlier zero i r h = absurd (omega arith)
   earlier (suc n) i r h =
-      let c = both (is_later (placed_at body places (suc n)) (placed_at body places n)) _ r in
+      let c = both (is_later (at (suc n)) (at n)) _ r in
       cases (ltb-true _ _ c.0) (earlier n i c.1) (eqb i n) refl where
-        cases : (placed_at body places n).day < (placed_at body places (suc n)).day → (i < n → (placed_at body places i).day < (placed_at body places n).day) → (b : Bool) → eqb i n ≡ b → (placed_at body places i).day < (placed_at body places (suc n)).day
+        cases : (at n).day < (at (suc n)).day → (i < n → (at i).day < (at n).day) → (b : Bool) → eqb i n ≡ b → (at i).day < (at (suc n)).day
         cases next rest true e = rw (eqb-true i n e) next
         cases next rest false e =
             let other : i ≡ n → ⊥ = eqb-false i n e in
             omega (arith, rest (omega arith))
 
-  module _ (day value : ℕ) where
-    -- the day is after all of them
-    pub none_placed : (n : ℕ) → days_rise (placed body places n) ≡ true → (0 < n → (placed_at body places (n - 1)).day < day) → any (has_read day value) (placed body places n) ≡ false
-    unfolding placed any day_of slot_at
-    none_placed zero r h = refl
-    none_placed (suc n) r h = none_stands day value (placed body places (suc n)) r (rw (last n) at (h (omega arith)))
+  module _ (rises : days_rise (reverse ss) ≡ true) where
+    rises_to : (j : ℕ) → j ≤ length ss → days_rise (back j) ≡ true
+    rises_to j h = rise_to (length ss) j h (rw back_all rises)
 
-    of_another_day : (e : Entry) → (e.day ≡ day → ⊥) → has_read day value e ≡ false
-    unfolding has_read
-    of_another_day e h = rw (ne_eqb e.day day h)
+    days_ordered : (i j : ℕ) → i ≤ j → j < length ss → (at i).day ≤ (at j).day
+    days_ordered i j h l = cases (eqb i j) refl where
+      cases : (b : Bool) → eqb i j ≡ b → (at i).day ≤ (at j).day
+      cases true e = rw (eqb-true i j e) (omega arith)
+      cases false e =
+          let other : i ≡ j → ⊥ = eqb-false i j e in
+          omega (arith, earlier j i (rises_to (suc j) (omega arith)) (omega arith))
 
-    -- the first one from the day on is the only one that can be of that day
-    pub one_placed : (n low : ℕ) → days_rise (placed body places n) ≡ true → low < n → (0 < low → (placed_at body places (low - 1)).day < day) → day ≤ (placed_at body places low).day → any (has_read day value) (placed body places n) ≡ has_read day value (placed_at body places low)
-    unfolding placed any
-    one_placed zero low r l h f = absurd (omega arith)
-    one_placed (suc n) low r l h f = cases (λ less. one_placed n low (placed_rise n r) less h f) (eqb low n) refl where
-      cases : (low < n → any (has_read day value) (placed body places n) ≡ has_read day value (placed_at body places low)) → (b : Bool) → eqb low n ≡ b → any (has_read day value) (placed body places (suc n)) ≡ has_read day value (placed_at body places low)
-      cases rest true e =
-          let same : low ≡ n = eqb-true low n e in
-          rw (same, none_placed n (placed_rise n r) (rw same at h), or_none)
-      cases rest false e =
-          let other : low ≡ n → ⊥ = eqb-false low n e in
-          let less : low < n = omega arith in
-          let later : (placed_at body places n).day ≡ day → ⊥ = λ same. omega (arith, earlier n low r less) in
-          rw (of_another_day (placed_at body places n) later) (rest less)
+    pub halved : (day : ℕ) → IsPartitionedBy (λ s. ltb s.day day) ss
+    halved day = IsPartitionedBy-ltb (λ s. s.day) ss day (IsNonDecreasingBy-from_default (λ s. s.day) ss zero_entry days_ordered)
 
--- ---- a value that none of them marked
-pub none_valued : (day value : ℕ) (ss : List Entry) → is_marked (value_marks ss) value ≡ false → any (has_read day value) ss ≡ false
-unfolding value_marks any has_read
-none_valued day value [] u = refl
-none_valued day value (s ∷ ss) u =
-    let free = unmarked (value_marks ss) s.value value u in
-    rw (ne_eqb s.value value free.0, and-false) (none_valued day value ss free.1)
+    module _ (day value : ℕ) where
+      -- the day is after the first n
+      none_before : (n : ℕ) → n ≤ length ss → (0 < n → (at (n - 1)).day < day) → any (has_read day value) (back n) ≡ false
+      unfolding back any day_of slot_at
+      none_before zero l h = refl
+      none_before (suc n) l h = none_stands day value (back (suc n)) (rises_to (suc n) l) (rw (last n) at (h (omega arith)))
 
--- ---- the halving itself
-module _ {body places : List ℕ} {n day : ℕ} where
-  pub between_up : {low high : ℕ} → Between body places n day low high → (middle : ℕ) → middle < high → (placed_at body places middle).day < day → Between body places n day (middle + 1) high
-  between_up old middle h earlier =
-      let e : middle + 1 - 1 ≡ middle = omega arith in
-      record { ordered = omega arith; within = old.within; before = λ _. rw e earlier; from = old.from }
+      of_another_day : (e : Entry) → (e.day ≡ day → ⊥) → has_read day value e ≡ false
+      unfolding has_read
+      of_another_day e h = rw (ne_eqb e.day day h)
 
-  pub between_down : {low high : ℕ} → Between body places n day low high → (middle : ℕ) → low ≤ middle → middle < high → day ≤ (placed_at body places middle).day → Between body places n day low middle
-  between_down old middle l h later =
-      record { ordered = l; within = omega (arith, old.within); before = old.before; from = λ _. later }
+      -- the first one from the day on is the only one that can be of that day
+      one_from : (n low : ℕ) → n ≤ length ss → low < n → (0 < low → (at (low - 1)).day < day) → day ≤ (at low).day → any (has_read day value) (back n) ≡ has_read day value (at low)
+      unfolding back any
+      one_from zero low l h b f = absurd (omega arith)
+      one_from (suc n) low l h b f = cases (λ less. one_from n low (omega arith) less b f) (eqb low n) refl where
+        cases : (low < n → any (has_read day value) (back n) ≡ has_read day value (at low)) → (b : Bool) → eqb low n ≡ b → any (has_read day value) (back (suc n)) ≡ has_read day value (at low)
+        cases rest true e =
+            let same : low ≡ n = eqb-true low n e in
+            rw (same, none_before n (omega arith) (rw same at b), or_none)
+        cases rest false e =
+            let other : low ≡ n → ⊥ = eqb-false low n e in
+            let less : low < n = omega arith in
+            let later : (at n).day ≡ day → ⊥ = λ same. omega (arith, earlier n low (rises_to (suc n) l) less) in
+            rw (of_another_day (at n) later) (rest less)
 
-  pub between_met : {low high : ℕ} → Between body places n day low high → high ≤ low → Between body places n day low low
-  between_met {low} {high} old h =
-      let e : high ≡ low = omega (arith, old.ordered) in
-      rw e at old
+      -- where halving ends
+      module _ {i : ℕ} (point : IsPartitionPoint (λ s. ltb s.day day ≡ true) (λ s. ltb s.day day ≡ false) ss i) where
+        before : 0 < i → (at (i - 1)).day < day
+        before h = ltb-true _ _ (point.0 (i - 1) zero_entry (omega arith) (omega arith))
 
-pub between_all : (body places : List ℕ) (n day : ℕ) → Between body places n day 0 n
-between_all body places n day =
-    record { ordered = omega arith; within = omega arith; before = λ h. absurd (omega arith); from = λ h. absurd (omega arith) }
+        pub none_found : length ss ≤ i → i ≤ length ss → any (has_read day value) (reverse ss) ≡ false
+        none_found h l =
+            let e : i ≡ length ss = omega arith in
+            rw (← back_all) (none_before (length ss) (omega arith) (rw e at before))
+
+        pub one_found : i < length ss → any (has_read day value) (reverse ss) ≡ has_read day value (at i)
+        one_found h = rw (← back_all) (one_from (length ss) i (omega arith) h before (ltb-false _ _ (point.1 i zero_entry (omega arith) h)))
+
+  -- a value that none of them marked
+  unmarked_to : (day value n : ℕ) → n ≤ length ss → is_marked (value_marks (take n ss)) value ≡ false → any (has_read day value) (back n) ≡ false
+  unfolding back any has_read
+  unmarked_to day value zero h u = refl
+  unmarked_to day value (suc n) h u =
+      let more = rw (add-one n) at (fold_more (λ (marks : ℕ) (s : Entry). mark_on marks s.value) 0 ss n zero_entry (omega arith)) in
+      let free = unmarked (value_marks (take n ss)) (at n).value value (rw more at u) in
+      rw (ne_eqb (at n).value value free.0, and-false) (unmarked_to day value n (omega arith) free.1)
+
+pub none_valued : (day value : ℕ) (ss : List Entry) → is_marked (value_marks ss) value ≡ false → any (has_read day value) (reverse ss) ≡ false
+none_valued day value ss u = rw (← back_all ss) (unmarked_to ss day value (length ss) (omega arith) (rw (take_all (length ss) ss (omega arith)) u))
 
 -- ---- one withdrawn entry after the other
 apart_kept : (b : Bool) (e : Entry) (ss ws : List Entry) → are_apart ss (keep_if b e ws) ≡ not (b && any (has_read e.day e.value) ss) && are_apart ss ws

@@ -144,7 +144,7 @@ module _ (body : List ℕ) where
   empty_clear day value e = record { sparse = λ z. absurd (omega arith); other = λ i z w. absurd (omega arith) }
 
   -- ---- a bucket with one entry
-  some_to : (day value i : ℕ) → is_withdrawn (entry i) && has_read day value (entry i) ≡ true → (m : ℕ) → i < m → any (has_read day value) (withdrawn (entries_to m body)) ≡ true
+  pub some_to : (day value i : ℕ) → is_withdrawn (entry i) && has_read day value (entry i) ≡ true → (m : ℕ) → i < m → any (has_read day value) (withdrawn (entries_to m body)) ≡ true
   unfolding entries_to those
   some_to day value i it zero h = absurd (omega arith)
   some_to day value i it (suc m) h = cases (some_to day value i it m) (eqb i m) refl where

@@ -1,14 +1,14 @@
 -- The last standing entry by its position, and how many entries are kept.
+use Rattle.std.specs.Prelude.{None}
 use mathlib.Core.Path.{◌≡◌, refl, sym, ap, ◌∙◌}
 use mathlib.Core.Bool.{Bool, true, false, not, ◌||◌, cond}
 use mathlib.Core.List.{List, [], ◌∷◌}
-use Prim.Native.Nat.{ℕ, zero, suc, ◌+◌, ◌-◌, ◌≤◌, ◌<◌}
+use Prim.Native.Nat.{ℕ, zero, suc, ◌-◌, ◌≤◌, ◌<◌}
 use native.Mathlib.Omega.{arith}
 use borrow.Author.Tests.{eqb-true, not-true}
 use lib.ListN.{length}
 use Rattle.arithmetic.specs.Powers.{ten_to}
 use Rattle.terms.specs.declared.entry.Entry.{Entry}
-use Rattle.terms.specs.declared.entry.Slot.TheVariants.{Empty}
 use Rattle.terms.specs.Entry.{kind_held, is_standing, is_withdrawn, is_held, keep_if, those, slot_at}
 use Rattle.register.specs.declared.head.Head.{Head}
 use Rattle.register.specs.Entries.{entry_start, entry_at}
@@ -62,8 +62,8 @@ module _ (run : Run) (a : List ℕ) (is : run ≡ run_of (entries_to run.count a
   pub none_standing : run.standing ≡ 0 → standing (entries_to run.count a) ≡ []
   none_standing h = none_counted run.count a counted newest_is h
 
-  pub run_room : entry_start run.count ≤ length a → (run.standing ≡ 0 → ⊥) → entry_start (run.newest + 1) ≤ length a
-  run_room room h = omega (arith, last_below run.count a counted newest_is h)
+  pub run_below : {most : ℕ} → run.count ≤ most → (run.standing ≡ 0 → ⊥) → run.newest < most
+  run_below few h = omega (arith, last_below run.count a counted newest_is h)
 
   pub run_newest : (run.standing ≡ 0 → ⊥) → standing (entries_to run.count a) ≡ entry_at a (entry_start run.newest) ∷ standing (entries_to run.newest a)
   run_newest h = last_counted run.count a counted newest_is h
@@ -73,7 +73,7 @@ held_only : (e : Entry) → is_held e ≡ true → (is_standing e ≡ false) × 
 unfolding is_held is_standing is_withdrawn
 held_only e h = rw (eqb-true e.kind kind_held h) (refl, refl)
 
-kept_one : (s w h : Bool) (e : Entry) (ks es : List Entry) → length ks ≡ length es → s || (w || h) ≡ true → (h ≡ true → (s ≡ false) × (w ≡ false)) → length (keep_if (s || w) e ks) ≡ cond (is_there (slot_if h e Empty)) (suc (length es) - 1) (suc (length es))
+kept_one : (s w h : Bool) (e : Entry) (ks es : List Entry) → length ks ≡ length es → s || (w || h) ≡ true → (h ≡ true → (s ≡ false) × (w ≡ false)) → length (keep_if (s || w) e ks) ≡ cond (is_there (slot_if h e None)) (suc (length es) - 1) (suc (length es))
 unfolding is_there
 kept_one true w true e ks es l k o = false_is (sym (o refl).0)
 kept_one true w false e ks es l k o = ap suc l
@@ -94,7 +94,7 @@ kept_all head (e ∷ es) h =
     kept_one (is_standing e) (is_withdrawn e) (is_held e) e (those is_kept es) es before kind (held_only e)
 
 -- ---- the summary of a pass
-pub summary_is : (head : Head) (es : List Entry) (p : Pass) {keeps last limit : ℕ} → p ≡ pass_of head p.apart es → are_in_order head es ≡ true → keeps ≡ cond p.held (p.run.count - 1) p.run.count → last ≡ value_of (slot_at (standing es) 0) → limit ≡ ten_to head.dials → ◌≡◌ {A = Summary} (record {
+pub summary_is : (head : Head) (es : List Entry) (p : Pass) {keeps last limit : ℕ} → p ≡ pass_of p.apart es → are_in_order head es ≡ true → keeps ≡ cond p.held (p.run.count - 1) p.run.count → last ≡ value_of (slot_at (standing es) 0) → limit ≡ ten_to head.dials → ◌≡◌ {A = Summary} (record {
   head = head;
   counts = record { kept = keeps; standing = p.run.standing; flagged = p.run.flagged; first = p.run.first; newest = p.run.newest };
   last = last;

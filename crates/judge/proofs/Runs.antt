@@ -1,4 +1,5 @@
 -- Runs of plain entries: what is kept of one entry more, and that a journal that is open stays so.
+use Rattle.std.specs.Prelude.{None}
 use mathlib.Core.Path.{◌≡◌, refl, sym, ap, ◌∙◌}
 use mathlib.Core.Bool.{Bool, true, false, not, ◌&&◌, ◌||◌, cond}
 use mathlib.Core.List.{List, [], ◌∷◌}
@@ -10,21 +11,22 @@ use lib.Dec.{eqb}
 use lib.ListN.{length}
 use Rattle.terms.specs.declared.entry.Entry.{Entry}
 use Rattle.terms.specs.Entry.{kind_withdrawn, is_standing, is_withdrawn, is_held, keep_if, those, slot_at}
-use Rattle.terms.specs.declared.entry.Slot.TheVariants.{Empty}
 use Rattle.terms.specs.declared.profile.Profile.{Profile}
 use Rattle.terms.specs.declared.profile.Profile.TheVariants.{Ordinary, Pseudo}
 use Rattle.terms.specs.Letter.{is_known}
+use Rattle.arithmetic.specs.Powers.{ten_to}
 use Rattle.terms.specs.Profile.{takes}
 use Rattle.register.specs.declared.head.Head.{Head}
 use Rattle.register.specs.Bytes.{byte_at}
 use Rattle.register.specs.Entries.{entry_start, entry_at}
-use Rattle.judge.specs.declared.limits.Limits.{Limits}
+use Rattle.judge.specs.declared.body.Body.{Body}
 use Rattle.judge.specs.declared.run.Run.{Run}
 use Rattle.journal.specs.Journal.{entries_to, standing, withdrawn, slot_if, held_of, is_there, is_flagged, first_value, newest_at, day_of}
 use Rattle.journal.specs.Sound.{any, is_final_read, holds, is_in_range, is_read, has_read, are_in_order}
 use Rattle.journal.specs.Inner.Loops.{stands_by, follows_by}
-use Rattle.judge.specs.Inner.Run.{last_day, run_of, ran_to}
-use Rattle.judge.specs.Inner.Plain.{takes_all, IsAll, PlainBody, IsOpen, OneOn, RunsTo}
+use Rattle.judge.specs.Inner.Profile.{takes_all}
+use Rattle.judge.specs.Inner.Run.{firsts, last_day, run_of, ran_to, IsRun}
+use Rattle.judge.specs.Inner.Plain.{PlainBody, IsOpen, OneOn, RunsTo}
 use Rattle.judge.proofs.Clashes.{stands_unwithdrawn, withdrawn_unstanding, free_standing, free_withdrawn, stays_apart}
 use Rattle.journal.proofs.Bools.{false_is}
 use Rattle.journal.proofs.Entries.{any_kept, one_more, those_more, length_entries, those_at_most, count_on}
@@ -66,7 +68,7 @@ unfolding is_there slot_at
 there_counted [] = refl
 there_counted (s ∷ ss) = rw (some s ss)
 
-pub held_there : (b : Bool) (e : Entry) → is_there (slot_if b e Empty) ≡ b
+pub held_there : (b : Bool) (e : Entry) → is_there (slot_if b e None) ≡ b
 unfolding is_there
 held_there true e = refl
 held_there false e = refl
@@ -105,9 +107,10 @@ unfolding takes_all takes
 takes_known Ordinary l all known = known
 takes_known Pseudo l all known = false_is all
 
-module _ {head : Head} {l : Limits} {last : ℕ} {e : Entry} (is : IsAll head l) (b : PlainBody l last e) where
+-- an entry that may follow, of a meter that takes every type
+module _ (head : Head) {limit last : ℕ} {e : Entry} (limit_is : limit ≡ ten_to head.dials) (all : takes_all head.profile ≡ true) (b : PlainBody limit last e) where
   taken : takes head.profile e.letter ≡ true
-  taken = takes_known head.profile e.letter is.all b.letter.known
+  taken = takes_known head.profile e.letter all b.letter.known
 
   range_is : is_in_range head e ≡ true
   unfolding is_in_range holds
@@ -115,8 +118,8 @@ module _ {head : Head} {l : Limits} {last : ℕ} {e : Entry} (is : IsAll head l)
       let d : e.day ≡ 0 → ⊥ = λ h. omega (arith, b.later) in
       rw (
         ne_eqb e.day 0 d,
-        ← is.limits.limit,
-        lt-ltb e.value l.limit b.small,
+        ← limit_is,
+        lt-ltb e.value limit b.small,
         taken,
         b.letter.inner,
         le-leb e.indicator 2 b.indicator,
@@ -131,94 +134,80 @@ module _ {head : Head} {l : Limits} {last : ℕ} {e : Entry} (is : IsAll head l)
   unfolding follows_by is_read
   follows_withdrawn ended w = rw (withdrawn_unstanding e w, w, withdrawn_unheld e w, range_is)
 
-module _ {head : Head} {l : Limits} {e : Entry} {ended clear : Bool} (es : List Entry) (is : IsAll head l) (b : PlainBody l (last_day es) e) (op : IsOpen head ended clear es) where
-  order_more : follows_by head e true (last_day es) false (any is_final_read (standing es)) ≡ true → are_in_order head (e ∷ es) ≡ true
-  order_more follows = rw (in_order_more, by_numbers, op.stands, op.unheld, follows) op.ordered
+body_of : {limit : ℕ} {run : Run} {e : Entry} (es : List Entry) → PlainBody limit run.day e → run ≡ run_of es → PlainBody limit (last_day es) e
+unfolding run_of
+body_of es b h = rw h at b
 
-  open_standing : is_standing e ≡ true → any (has_read e.day e.value) (withdrawn es) ≡ false → IsOpen head ended clear (e ∷ es)
-  unfolding those held_of
-  open_standing s none =
-      record {
-        ordered = order_more (follows_standing is b (any is_final_read (standing es)) s);
-        stands = rw (s, there_kept);
-        unheld = rw (held_there, stands_unheld e s);
-        ended_is = rw (s, any_kept, b.letter.unending) op.ended_is;
-        apart = λ c. stays_apart e es (free_standing e es s none) (op.apart c);
-      }
+module _ (head : Head) {limit : ℕ} (limit_is : limit ≡ ten_to head.dials) (es : List Entry) {e : Entry} where
+  module _ (all : takes_all head.profile ≡ true) (b : PlainBody limit (last_day es) e) {ended clear : Bool} (op : IsOpen head ended clear es) where
+    order_more : follows_by head e true (last_day es) false (any is_final_read (standing es)) ≡ true → are_in_order head (e ∷ es) ≡ true
+    order_more follows = rw (in_order_more, by_numbers, op.stands, op.unheld, follows) op.ordered
 
-  open_withdrawn : is_withdrawn e ≡ true → IsOpen head ended clear (e ∷ es)
-  unfolding those held_of
-  open_withdrawn w =
-      let s = withdrawn_unstanding e w in
-      record {
-        ordered = order_more (follows_withdrawn is b (any is_final_read (standing es)) w);
-        stands = rw s op.stands;
-        unheld = rw (held_there, withdrawn_unheld e w);
-        ended_is = rw s op.ended_is;
-        apart = λ c. stays_apart e es (free_withdrawn e es w (days_rise_lem head es op.ordered) b.later) (op.apart c);
-      }
+    open_standing : is_standing e ≡ true → any (has_read e.day e.value) (withdrawn es) ≡ false → IsOpen head ended clear (e ∷ es)
+    unfolding those held_of
+    open_standing s none =
+        record {
+          ordered = order_more (follows_standing head limit_is all b (any is_final_read (standing es)) s);
+          stands = rw (s, there_kept);
+          unheld = rw (held_there, stands_unheld e s);
+          ended_is = rw (s, any_kept, b.letter.unending) op.ended_is;
+          apart = λ c. stays_apart e es (free_standing e es s none) (op.apart c);
+        }
 
--- ---- one entry more in a run
-module _ {l : Limits} (es : List Entry) {run : Run} (e : Entry) {r : Run} (b : PlainBody l run.day e) (one : r.count ≡ run.count + 1) (more : run ≡ run_of es → r ≡ run_of (e ∷ es)) where
-  body_of : run ≡ run_of es → PlainBody l (last_day es) e
-  unfolding run_of
-  body_of h = rw h at b
+    open_withdrawn : is_withdrawn e ≡ true → IsOpen head ended clear (e ∷ es)
+    unfolding those held_of
+    open_withdrawn w =
+        let s = withdrawn_unstanding e w in
+        record {
+          ordered = order_more (follows_withdrawn head limit_is all b (any is_final_read (standing es)) w);
+          stands = rw s op.stands;
+          unheld = rw (held_there, withdrawn_unheld e w);
+          ended_is = rw s op.ended_is;
+          apart = λ c. stays_apart e es (free_withdrawn e es w (days_rise_lem head es op.ordered) b.later) (op.apart c);
+        }
 
-  stand_one : is_standing e ≡ true → any (has_read e.day e.value) (withdrawn es) ≡ false → OneOn l es run e r
-  unfolding is_standing
-  stand_one s none =
-      record {
-        count = one;
-        kind = λ z. (let k : e.kind ≡ 2 = eqb-true _ _ s in omega arith);
-        run_is = more;
-        opened = λ head ended clear is h op. open_standing es is (body_of h) op s none;
-      }
+  -- ---- one entry more in a run
+  module _ (run : Run) {r : Run} (b : PlainBody limit run.day e) where
+    pub stand_one : is_standing e ≡ true → (run.standing ≡ 0 → ⊥) → any (has_read e.day e.value) (withdrawn es) ≡ false → r ≡ record run { day = e.day; count = run.count + 1; standing = run.standing + 1; newest = run.count } → OneOn head es run e r
+    unfolding is_standing is_flagged
+    stand_one s some none one =
+        record {
+          count = rw one;
+          kind = λ z. (let k : e.kind ≡ 2 = eqb-true _ _ s in omega arith);
+          run_is = λ h. one ∙ rw (run_more, ← h, s, b.flag, ne_eqb run.standing 0 some);
+          opened = λ ended clear all h op. open_standing all (body_of es b h) op s none;
+        }
 
-  withdraw_one : is_withdrawn e ≡ true → OneOn l es run e r
-  unfolding is_withdrawn
-  withdraw_one w =
-      record {
-        count = one;
-        kind = λ z. (let k : e.kind ≡ 3 = eqb-true _ _ w in omega arith);
-        run_is = more;
-        opened = λ head ended clear is h op. open_withdrawn es is (body_of h) op w;
-      }
+    pub withdraw_one : is_withdrawn e ≡ true → r ≡ record run { count = run.count + 1 } → OneOn head es run e r
+    unfolding is_withdrawn
+    withdraw_one w one =
+        record {
+          count = rw one;
+          kind = λ z. (let k : e.kind ≡ 3 = eqb-true _ _ w in omega arith);
+          run_is = λ h. one ∙ rw (run_more, ← h, withdrawn_unstanding e w);
+          opened = λ ended clear all h op. open_withdrawn all (body_of es b h) op w;
+        }
 
 -- ---- runs
-pub runs_none : (body : List ℕ) (l : Limits) (run : Run) → run ≡ run_of (entries_to run.count body) → run.count ≤ l.most → RunsTo body l run run
-runs_none body l run is few = record { more = omega arith; few = few; goes = refl; run_is = is; opened = λ head ended clear limits op. op }
+pub runs_none : {b : Body} {run : Run} → IsRun b run → RunsTo b run run
+runs_none is = record { more = omega arith; runs = is; goes = refl; opened = λ ended clear all op. op }
 
-pub runs_one : {body : List ℕ} {l : Limits} {from run r : Run} {e : Entry} → RunsTo body l from run → run.count < l.most → e ≡ entry_at body (entry_start run.count) → OneOn l (entries_to run.count body) run e r → RunsTo body l from r
+pub runs_one : {b : Body} {from run r : Run} {e : Entry} → RunsTo b from run → run.count < b.most → e ≡ entry_at b.bytes.now (entry_start run.count) → OneOn b.head (firsts b run.count) run e r → RunsTo b from r
 unfolding entry_at
-runs_one {body} {l} {from} {run} {r} {e} runs h read one =
-    let es = entries_to run.count body in
+runs_one {b} {from} {run} {r} {e} runs h read one =
+    let body = b.bytes.now in
     let n = one.count in
-    let on : entries_to r.count body ≡ e ∷ es = rw (n, one_more run.count body, ← read) in
+    let on : firsts b r.count ≡ e ∷ firsts b run.count = rw (n, one_more run.count body, ← read) in
     let some : byte_at body (entry_start run.count) ≡ 0 → ⊥ = λ z. one.kind (rw read z) in
     record {
       more = omega (arith, runs.more);
-      few = omega arith;
-      goes = runs.goes ∙ rw n (count_on l.most run.count body h some);
-      run_is = rw on (one.run_is runs.run_is);
-      opened = λ head ended clear limits op. rw on (one.opened head ended clear limits runs.run_is (runs.opened head ended clear limits op));
+      runs = record { few = omega arith; run_is = rw on (one.run_is runs.runs.run_is) };
+      goes = runs.goes ∙ rw n (count_on b.most run.count body h some);
+      opened = λ ended clear all op. rw on (one.opened ended clear all runs.runs.run_is (runs.opened ended clear all op));
     }
 
--- ---- a run over plain entries, with one more
-module _ {l : Limits} (es : List Entry) (e : Entry) (from : Run) (k day newest standing : ℕ) (b : PlainBody l day e) where
-  pub ran_standing : is_standing e ≡ true → (standing ≡ 0 → ⊥) → any (has_read e.day e.value) (withdrawn es) ≡ false → OneOn l es (ran_to from k day newest standing) e (ran_to from (k + 1) e.day k (standing + 1))
-  unfolding ran_to is_flagged
-  ran_standing s some none = stand_one es e b refl (λ h. rw (run_more, ← h, s, b.flag, ne_eqb standing 0 some)) s none
-
-  pub ran_withdrawn : is_withdrawn e ≡ true → OneOn l es (ran_to from k day newest standing) e (ran_to from (k + 1) day newest standing)
-  unfolding ran_to
-  ran_withdrawn w = withdraw_one es e b refl (λ h. rw (run_more, ← h, withdrawn_unstanding e w)) w
-
-pub ran_start : (from : Run) → ran_to from from.count from.day from.newest from.standing ≡ from
-unfolding ran_to
-ran_start from = refl
-
 -- ---- entries that all stand
-pub all_standing : (es : List Entry) → length (standing es) ≡ length es → (withdrawn es ≡ []) × (newest_at es ≡ length es - 1)
+all_standing : (es : List Entry) → length (standing es) ≡ length es → (withdrawn es ≡ []) × (newest_at es ≡ length es - 1)
 unfolding those newest_at
 all_standing [] h = (refl, refl)
 all_standing (e ∷ es) h = cases (all_standing es) (is_standing e) refl where
@@ -237,7 +226,6 @@ all_run from es is all =
     (stand.0, rw is stand.1)
 
 pub plain_start : (from : Run) → from.standing ≡ from.count → from.newest ≡ from.count - 1 → ran_to from from.count from.day (from.count - 1) from.count ≡ from
-unfolding ran_to
 plain_start from all newest = rw (← newest, ← all)
 
 pub none_withdrawn : (day value : ℕ) (es : List Entry) → withdrawn es ≡ [] → any (has_read day value) (withdrawn es) ≡ false

@@ -1,65 +1,55 @@
 -- What an area is, by what the pass over it says.
+use Rattle.std.specs.Prelude.{Result, Ok, Err, Some, None}
 use mathlib.Core.Path.{◌≡◌, refl, sym, ap, ◌∙◌}
 use mathlib.Core.Bool.{Bool, true, false, not, ◌&&◌, cond, and-true, and-false}
 use mathlib.Core.List.{List}
-use Prim.Native.Nat.{ℕ, ◌≤◌}
+use Prim.Native.Nat.{ℕ}
 use native.Mathlib.Omega.{arith}
 use borrow.Author.Tests.{eqb-true}
 use lib.Dec.{eqb}
 use lib.ListN.{length, drop}
 use Rattle.terms.specs.declared.entry.Entry.{Entry}
+use Rattle.terms.specs.declared.refusal.Refusal.{Refusal}
+use Rattle.terms.specs.declared.refusal.Refusal.TheVariants.{NoMeter, Damaged}
 use Rattle.register.specs.Area.{area_bytes, all_zero}
 use Rattle.register.specs.Entries.{entry_start}
 use Rattle.register.specs.declared.head.Head.{Head}
-use Rattle.register.specs.Head.{head_of, most_entries, body_of}
-use Rattle.judge.specs.declared.area.Judged.{Judged}
-use Rattle.judge.specs.declared.area.Judged.TheVariants as judge
-use Rattle.judge.specs.declared.area.Judgement.{Judgement}
+use Rattle.register.specs.Head.{head_of, body_of}
+use Rattle.judge.specs.declared.area.Found.{Found}
 use Rattle.judge.specs.declared.area.Summary.{Summary}
 use Rattle.judge.specs.declared.pass.Pass.{Pass}
 use Rattle.journal.specs.Journal.{Journal, entries_to, entry_count, journal_of, standing, withdrawn}
 use Rattle.journal.specs.Sound.{any, has_read, is_head, are_apart, carries_right, are_sound, is_sound}
-use Rattle.judge.specs.Inner.Judged.{summary_of, judged, count_in, is_whole, judged_body, among_in, Judges, Answers, Counted}
+use Rattle.judge.specs.Inner.Judged.{summary_of, judged, is_whole, judged_body, Counted}
+use Rattle.judge.specs.Inner.Answered.{Answers}
 use Rattle.judge.specs.Inner.Pass.{IsPassed}
 use Rattle.journal.proofs.Bools.{both}
-use Rattle.journal.proofs.Entries.{length_entries, count_from_most}
+use Rattle.journal.proofs.Entries.{length_entries}
 
-abbrev judges : Bool → Bool → Bool → Summary → Judged
-judges b z s t = cond (not b) judge.Damaged (cond z judge.Zero (cond s (judge.Sound t) judge.Damaged))
+abbrev judges : Bool → Bool → Bool → Summary → Result Summary Refusal
+judges b z s t = cond (not b) (Err Damaged) (cond z (Err NoMeter) (cond s (Ok t) (Err Damaged)))
 
-no : {A : Type 0} {x y : Judged} → x ≡ y → (x ≡ y → ◌≡◌ {A = ℕ} 0 1) → A
+no : {A : Type 0} {x y : Result Summary Refusal} → x ≡ y → (x ≡ y → ◌≡◌ {A = ℕ} 0 1) → A
 no h f = absurd (let z = f h in omega arith)
 
-sound_case : (b z s : Bool) (t : Summary) {u : Summary} → judges b z s t ≡ judge.Sound u → (b ≡ true) × (s ≡ true) × (u ≡ t)
+sound_case : (b z s : Bool) (t : Summary) {u : Summary} → judges b z s t ≡ Ok u → (b ≡ true) × (s ≡ true) × (u ≡ t)
 sound_case false z s t h = no h (λ e. cc)
 sound_case true true s t h = no h (λ e. cc)
 sound_case true false true t h = (refl, refl, cc)
 sound_case true false false t h = no h (λ e. cc)
 
--- ---- the answer with it
-module _ {found : Judged} {body : List ℕ} {day value : ℕ} {r : Judgement} where
-  pub damaged_answers : r ≡ record { found = judge.Damaged; withdrawn = false } → found ≡ judge.Damaged → Answers found body day value r
-  unfolding among_in
-  damaged_answers e is = record { found_is = rw (e, is); withdrawn_is = rw (e, is) }
-
-  pub zero_answers : r ≡ record { found = judge.Zero; withdrawn = false } → found ≡ judge.Zero → Answers found body day value r
-  unfolding among_in
-  zero_answers e is = record { found_is = rw (e, is); withdrawn_is = rw (e, is) }
-
-  pub sound_answers : {t : Summary} (head : Head) (k : ℕ) → r.found ≡ judge.Sound t → t ≡ summary_of (record { head = head; entries = entries_to k body }) → found ≡ judge.Sound (summary_of (record { head = head; entries = entries_to k body })) → r.withdrawn ≡ any (has_read day value) (withdrawn (entries_to k body)) → Answers found body day value r
-  unfolding among_in summary_of
-  sound_answers head k e sums is among =
-      record {
-        found_is = e ∙ ap judge.Sound sums ∙ sym is;
-        withdrawn_is = among ∙ sym (rw (is, length_entries k body));
-      }
-
 -- what is judged sound is counted
-pub judged_counted : (a : List ℕ) {t : Summary} → Judges a (judge.Sound t) → Counted a t
+pub judged_counted : (a : List ℕ) {t : Summary} → Ok t ≡ judged a → Counted a t
 unfolding judged
-judged_counted a is =
-    let c = sound_case (eqb (length a) area_bytes) (all_zero a) (is_sound a) (summary_of (journal_of a)) (sym is.found_is) in
+judged_counted a e =
+    let c = sound_case (eqb (length a) area_bytes) (all_zero a) (is_sound a) (summary_of (journal_of a)) (sym e) in
     record { long = eqb-true (length a) area_bytes c.0; sound = c.1; summary = c.2 }
+
+-- ---- the answer with it
+pub sound_answers : {body : List ℕ} {day value : ℕ} {found : Result Summary Refusal} {f : Found} (head : Head) (k : ℕ) → f.summary ≡ summary_of (record { head = head; entries = entries_to k body }) → found ≡ Ok (summary_of (record { head = head; entries = entries_to k body })) → f.withdrawn ≡ any (has_read day value) (withdrawn (entries_to k body)) → Answers found body day value (Ok f)
+unfolding summary_of
+sound_answers {body} head k sums is among =
+    record { found_is = ap Ok sums ∙ sym is; withdrawn_is = among ∙ sym (rw (sums, length_entries k body)) }
 
 -- ---- a sound area by its head and its body
 module _ (a : List ℕ) (t : Summary) (sound : is_sound a ≡ true) (summary : t ≡ summary_of (journal_of a)) where
@@ -85,24 +75,27 @@ module _ (a : List ℕ) (t : Summary) (sound : is_sound a ≡ true) (summary : t
       ∙ whole
 
 -- the answer about a read is the journal's
-pub withdrawn_counted : (a : List ℕ) {t : Summary} {day value : ℕ} {r : Judgement} → Counted a t → Answers (judged a) (body_of a) day value r → r.found ≡ judge.Sound t → r.withdrawn ≡ any (has_read day value) (withdrawn (journal_of a).entries)
-unfolding among_in
-withdrawn_counted a {t} is answers e = answers.withdrawn_is ∙ rw (sym answers.found_is ∙ e, journal_is a t is.sound is.summary)
+pub withdrawn_counted : (a : List ℕ) (day value : ℕ) {t : Summary} {b : Bool} → Counted a t → b ≡ any (has_read day value) (withdrawn (entries_to t.entries (body_of a))) → b ≡ any (has_read day value) (withdrawn (journal_of a).entries)
+withdrawn_counted a day value {t} is e = e ∙ rw (journal_is a t is.sound is.summary)
 
 -- ---- a body by the pass over it
-module _ {head : Head} {body : List ℕ} (p : Pass) (is : IsPassed head body p) where
-  pub disordered : p.ordered ≡ false → false ≡ is_whole head body
+module _ (head : Head) (body : List ℕ) where
+  pub disordered : IsPassed head body None → is_whole head body ≡ false
   unfolding is_whole are_sound
-  disordered h = rw (sym is.ordered ∙ h, and-false)
+  disordered h = rw (h, and-false)
 
-  module _ (order : p.ordered ≡ true) where
+  pub body_damaged : is_whole head body ≡ false → judged_body head body ≡ Err Damaged
+  unfolding judged_body
+  body_damaged h = rw h
+
+  module _ (p : Pass) (is : IsPassed head body (Some p)) where
     abbrev es : List Entry
     es = entries_to p.run.count body
 
-    -- what is left of the clauses once the entries are in order
+    -- what is left of the clauses where the entries are in order
     whole : is_whole head body ≡ all_zero (drop (entry_start p.run.count) body) && (are_apart (standing es) (withdrawn es) && carries_right head (standing es))
     unfolding is_whole are_sound
-    whole = rw (sym is.ordered ∙ order, ← is.count order)
+    whole = rw (← is.0, is.1.ordered)
 
     pub clashing : are_apart (standing es) (withdrawn es) ≡ false → false ≡ is_whole head body
     clashing h = rw (whole, h, and-false)
@@ -113,18 +106,6 @@ module _ {head : Head} {body : List ℕ} (p : Pass) (is : IsPassed head body p) 
     pub then_ends : are_apart (standing es) (withdrawn es) ≡ true → carries_right head (standing es) ≡ true → all_zero (drop (entry_start p.run.count) body) ≡ is_whole head body
     then_ends apart carries = rw (whole, apart, carries, and-true)
 
-    pub pass_room : entry_start (most_entries head) ≤ length body → entry_start p.run.count ≤ length body
-    pass_room room = omega (arith, is.count order, count_from_most (most_entries head) body)
-
-  pub body_damaged : is_whole head body ≡ false → judged_body head body ≡ judge.Damaged
-  unfolding judged_body
-  body_damaged h = rw h
-
-  module _ (is_whole : is_whole head body ≡ true) where
-    pub whole_ordered : p.ordered ≡ true
-    unfolding is_whole are_sound
-    whole_ordered = is.ordered ∙ (both _ _ (both (all_zero (drop (entry_start (count_in head body)) body)) _ is_whole).1).0
-
-    pub body_judged : judged_body head body ≡ judge.Sound (summary_of (record { head = head; entries = entries_to p.run.count body }))
+    pub body_judged : is_whole head body ≡ true → judged_body head body ≡ Ok (summary_of (record { head = head; entries = entries_to p.run.count body }))
     unfolding judged_body
-    body_judged = rw (is_whole, is.count whole_ordered)
+    body_judged h = rw (h, is.0)

@@ -1,4 +1,4 @@
-// What an area is: all zero, damaged, or sound with what is counted of its entries.
+// What an area is: a sound journal with what is counted of its entries, or why it is none.
 ghost use Rattle.std.specs.Prelude.{◌≡◌, true, false, cond, ◌-◌, ◌≤◌, ◌<◌, length};
 ghost use Rattle.arithmetic.specs.Powers.{ten_to};
 ghost use Rattle.terms.specs.Entry.{slot_at};
@@ -8,21 +8,23 @@ ghost use Rattle.register.specs.Entries.{entry_start};
 ghost use Rattle.register.specs.Head.{head_of, most_entries, body_of};
 ghost use Rattle.journal.specs.Journal.{entries_to, standing};
 ghost use Rattle.journal.specs.Sound.{is_head};
-ghost use Rattle.judge.specs.Inner.Judged.{value_of, summary_of, judged, is_whole, judged_body, Judges, Answers};
-ghost use Rattle.judge.specs.Inner.Run.{run_of};
+ghost use Rattle.judge.specs.Inner.Judged.{value_of, summary_of, is_whole, judged_body};
+ghost use Rattle.judge.specs.Inner.Answered.{Judges, Answers};
+ghost use Rattle.judge.specs.Inner.Run.{firsts, IsRun};
 ghost use Rattle.judge.specs.Inner.Pass.{IsPass, IsPassed};
 
 use crate::apart::is_apart;
+use crate::body::Body;
 use crate::carry::carries_right;
-use crate::limits::limits_of;
 use crate::pass::Pass;
 use crate::passed::pass_over;
-use crate::read::entry_at;
 use crate::run::Run;
+use crate::sound::{Judged, Sound};
 use journal::plate::is_meter;
 use register::area::Layout;
 use register::head::{Head, head_bytes};
 use register::read::head_of;
+use terms::refusal::Refusal;
 use zeros::is_zero_from;
 
 // Counts over a journal's entries.
@@ -52,29 +54,22 @@ pub struct Summary {
     pub ended: bool,
 }
 
+// What is counted of a body, and whether the read that was asked for is withdrawn.
 #[derive(Clone, Copy)]
-pub enum Judged {
-    Zero,
-    Damaged,
-    Sound(Summary),
-}
-
-#[derive(Clone, Copy)]
-pub struct Judgement {
-    pub found: Judged,
-    // The read that was asked for is withdrawn. It is not where there is no sound journal.
+pub(crate) struct Found {
+    pub summary: Summary,
     pub withdrawn: bool,
 }
 
 // The value of the last standing read.
-fn last_value(body: &[u8], run: Run) -> u32
-    requires { (entry_start run.count ≤ length body.now) × (run ≡ run_of (entries_to run.count body.now)) }
-    ensures { result ≡ value_of (slot_at (standing (entries_to run.count body.now)) 0) }
+fn last_value(body: Body, run: Run) -> u32
+    requires { IsRun body run }
+    ensures { result ≡ value_of (slot_at (standing (firsts body.entry run.count)) 0) }
 {
     if run.standing == 0 {
         return 0;
     }
-    let e = entry_at(body, run.newest);
+    let e = body.at(run.newest);
     e.value
 }
 
@@ -90,15 +85,15 @@ fn kept_of(count: u8, held: bool) -> u8
 }
 
 // What is counted, once all entries are passed.
-fn summary_of(body: &[u8], head: Head, limit: u32, pass: Pass) -> Summary
-    requires { (entry_start pass.run.count ≤ length body.now) × (pass.run ≡ run_of (entries_to pass.run.count body.now)) × (pass.held ≡ true → 0 < pass.run.count) }
-    ensures { limit ≡ ten_to head.dials → IsPass head body.now pass → result ≡ summary_of (record { head = head; entries = entries_to pass.run.count body.now }) }
+fn summary_of(body: Body, pass: Pass) -> Summary
+    requires { IsRun body pass.run × (pass.held ≡ true → 0 < pass.run.count) }
+    ensures { IsPass body.entry.head body.entry.bytes.now pass → result ≡ summary_of (record { head = body.entry.head; entries = firsts body.entry pass.run.count }) }
 {
     let run = pass.run;
     let kept = kept_of(run.count, pass.held);
     let last = last_value(body, run);
     Summary {
-        head,
+        head: body.head,
         counts: Counts {
             kept,
             standing: run.standing,
@@ -108,7 +103,7 @@ fn summary_of(body: &[u8], head: Head, limit: u32, pass: Pass) -> Summary
         },
         last,
         day: run.day,
-        limit,
+        limit: body.limit,
         entries: run.count,
         ended: pass.ended,
     }
@@ -121,78 +116,70 @@ fn is_head(area: &[u8], head: Head) -> bool
     is_meter(area[0], head)
 }
 
-// What was found, where it is no sound journal.
-fn no_journal(found: Judged) -> Judgement
-    ensures { result ≡ record { found = found; withdrawn = false } }
-{
-    Judgement {
-        found,
-        withdrawn: false,
-    }
-}
-
 // The entries that were passed are sound, and zeros follow them.
-fn is_whole(body: &[u8], head: Head, limit: u32, pass: Pass) -> bool
-    requires { (entry_start (most_entries head) ≤ length body.now) × (limit ≡ ten_to head.dials) × IsPassed head body.now pass }
-    ensures { result ≡ is_whole head body.now }
+fn is_whole(body: Body, pass: Pass) -> bool
+    requires { IsPassed body.head body.bytes.now (Some pass) }
+    ensures { result ≡ is_whole body.entry.head body.entry.bytes.now }
 {
-    if !pass.ordered {
-        return false;
-    }
-    if !is_apart(body, head, pass) {
+    if !is_apart(body, pass) {
         return false;
     }
     let run = pass.run;
-    if !carries_right(body, head, limit, run) {
+    if !carries_right(body, run) {
         return false;
     }
-    is_zero_from(body, Layout::ENTRY_BYTES * (run.count as usize))
+    is_zero_from(body.bytes, Layout::ENTRY_BYTES * (run.count as usize))
 }
 
 // The entries that follow a head.
-fn judge_body(body: &[u8], head: Head, day: u16, value: u32) -> Judgement
-    requires { entry_start (most_entries head) ≤ length body.now }
-    ensures { Answers (judged_body head body.now) body.now day value result }
+fn judge_body(body: Body, day: u16, value: u32) -> Result<Found, Refusal>
+    ensures { Answers (judged_body body.entry.head body.entry.bytes.now) body.entry.bytes.now day value result }
 {
-    let limits = limits_of(head);
-    let passed = pass_over(body, head, limits, day, value);
-    let pass = passed.pass;
-    if !is_whole(body, head, limits.limit, pass) {
-        return no_journal(Judged::Damaged);
+    let Some(passed) = pass_over(body, day, value) else {
+        return Err(Refusal::Damaged);
+    };
+    if !is_whole(body, passed.pass) {
+        return Err(Refusal::Damaged);
     }
-    let summary = summary_of(body, head, limits.limit, pass);
-    Judgement {
-        found: Judged::Sound(summary),
+    Ok(Found {
+        summary: summary_of(body, passed.pass),
         withdrawn: passed.withdrawn,
-    }
+    })
 }
 
 // An area of 512 bytes that are not all zero.
-fn judge_journal(area: &[u8], day: u16, value: u32) -> Judgement
+fn judge_journal(area: &[u8], day: u16, value: u32) -> Result<Judged<'_>, Refusal>
     requires { (length area.now ≡ area_bytes) × (all_zero area.now ≡ false) }
-    ensures { Answers (judged area.now) (body_of area.now) day value result }
+    ensures { Judges area.now day value result }
 {
     let head = head_of(area);
     if !is_head(area, head) {
-        return no_journal(Judged::Damaged);
+        return Err(Refusal::Damaged);
     }
     let start = head_bytes(head);
-    judge_body(&area[start..], head, day, value)
+    let found = judge_body(Body::new(&area[start..], head), day, value)?;
+    Ok(Judged {
+        journal: Sound {
+            area,
+            summary: found.summary,
+        },
+        withdrawn: found.withdrawn,
+    })
 }
 
-// All zero, damaged, or sound with what is counted, for any bytes whatever; and whether the read of a day and a value that is asked for is
-// among the withdrawn ones. An area whose first byte is not zero need not be looked through for zeros.
-pub fn judge_area(area: &[u8], day: u16, value: u32) -> Judgement
-    ensures { Judges area.now result.found × Answers (judged area.now) (body_of area.now) day value result }
+// A sound journal with what is counted, for any bytes whatever; and whether the read of a day and a value that is asked for is among the
+// withdrawn ones. 3 where all is zero, and 4 where it is neither. An area whose first byte is not zero need not be looked through for zeros.
+pub fn judge_area(area: &[u8], day: u16, value: u32) -> Result<Judged<'_>, Refusal>
+    ensures { Judges area.now day value result }
 {
     if area.len() != Layout::AREA_BYTES {
-        return no_journal(Judged::Damaged);
+        return Err(Refusal::Damaged);
     }
     if area[0] != 0 {
         return judge_journal(area, day, value);
     }
     if is_zero_from(area, 0) {
-        return no_journal(Judged::Zero);
+        return Err(Refusal::NoMeter);
     }
-    no_journal(Judged::Damaged)
+    Err(Refusal::Damaged)
 }

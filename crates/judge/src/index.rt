@@ -1,22 +1,22 @@
 // An index of the withdrawn reads by day and value, so that a read is told apart from them by a look at one bucket. A bucket has 0 where
 // nothing was put into it, the position of the one entry that was, counted from 1, or `CROWDED`.
-ghost use Rattle.std.specs.Prelude.{◌≡◌, true, ◌≤◌, ◌<◌, length};
-ghost use Rattle.register.specs.Entries.{entry_start};
-ghost use Rattle.journal.specs.Journal.{entries_to, withdrawn};
+ghost use Rattle.std.specs.Prelude.{◌≡◌, true, false, ◌≤◌, ◌<◌, slice_index};
+ghost use Rattle.journal.specs.Journal.{withdrawn};
 ghost use Rattle.journal.specs.Sound.{any, has_read};
-ghost use Rattle.judge.specs.Inner.Index.{bucket_of, bucket_for, crowded, put_in, Indexed, Clear};
+ghost use Rattle.judge.specs.Inner.Index.{bucket_of, bucket_for, crowded, put_in, Indexed};
+ghost use Rattle.judge.specs.Inner.Run.{firsts};
 
-use crate::read::entry_at;
+use crate::body::Body;
 use journal::order::{has_read, is_withdrawn};
 use terms::entry::Entry;
 
-#[derive(Clone, Copy)]
-pub struct Index;
+const BUCKETS: usize = 256;
+// Above every position, since no journal has so many entries.
+const CROWDED: u8 = 255;
 
-impl Index {
-    pub const BUCKETS: usize = 256;
-    // Above every position, since no journal has so many entries.
-    pub(crate) const CROWDED: u8 = 255;
+#[derive(Drop)]
+pub struct Index {
+    pub buckets: [u8; BUCKETS],
 }
 
 // The bucket of a read.
@@ -26,67 +26,75 @@ pub fn bucket_of(day: u16, value: u32) -> u8
     ((day as u32 + value % 256) % 256) as u8
 }
 
-// Puts the entry after k others into its bucket.
-pub(crate) fn put(index: &mut [u8; Index::BUCKETS], k: u8, e: Entry)
-    requires { k < crowded }
-    ensures { index.new ≡ put_in index.old (bucket_for e) k }
-{
-    let at = bucket_of(e.day, e.value) as usize;
-    if index[at] == 0 {
-        index[at] = k + 1;
-    } else {
-        index[at] = Index::CROWDED;
-    }
-}
-
-// What the bucket of an entry has is no other of its day and value. Where it is crowded, nobody knows.
-pub(crate) fn is_clear(body: &[u8], k: u8, there: u8, e: Entry) -> bool
-    requires { (entry_start k ≤ length body.now) × (k < crowded) }
-    ensures { result ≡ true → Clear body.now there e.day e.value }
-{
-    if there == 0 {
-        return true;
-    }
-    if k < there {
-        return false;
-    }
-    !has_read(e.day, e.value, entry_at(body, there - 1))
-}
-
 // One of the first m entries is withdrawn with this day and value.
-fn is_among(body: &[u8], m: u8, day: u16, value: u32) -> bool
-    requires { entry_start m ≤ length body.now }
-    ensures { result ≡ any (has_read day value) (withdrawn (entries_to m body.now)) }
+fn is_among(body: Body, m: u8, day: u16, value: u32) -> bool
+    requires { m ≤ body.most }
+    ensures { result ≡ any (has_read day value) (withdrawn (firsts body.entry m)) }
 {
-    let mut found = false;
-    let mut k: u8 = 0;
-    while k < m {
-        let e = entry_at(body, k);
-        found = (is_withdrawn(e) & has_read(day, value, e)) | found;
-        k += 1;
+    for k in 0..m {
+        let e = body.at(k);
+        if is_withdrawn(e) & has_read(day, value, e) {
+            return true;
+        }
     }
-    found
+    false
 }
 
-// The same by the index. Only where the bucket is crowded are the entries gone through.
-pub(crate) fn has_withdrawn(
-    body: &[u8],
-    m: u8,
-    index: &[u8; Index::BUCKETS],
-    day: u16,
-    value: u32,
-) -> bool
-    requires { (entry_start m ≤ length body.now) × (m < crowded) × Indexed body.now m index.now }
-    ensures { result ≡ any (has_read day value) (withdrawn (entries_to m body.now)) }
-{
-    let at = bucket_of(day, value) as usize;
-    let there = index[at];
-    if there == 0 {
-        return false;
+impl Index {
+    pub(crate) fn new() -> Self {
+        Index {
+            buckets: [0; BUCKETS],
+        }
     }
-    if m < there {
-        return is_among(body, m, day, value);
+
+    // What the bucket of a read has.
+    fn there(&self, day: u16, value: u32) -> u8
+        ensures { result ≡ slice_index self.now.buckets (bucket_of day value) }
+    {
+        self.buckets[bucket_of(day, value) as usize]
     }
-    let e = entry_at(body, there - 1);
-    is_withdrawn(e) & has_read(day, value, e)
+
+    // Puts the entry after k others into its bucket.
+    pub(crate) fn put(&mut self, k: u8, e: Entry)
+        requires { k < crowded }
+        ensures { self.new.buckets ≡ put_in self.old.buckets (bucket_for e) k }
+    {
+        let at = bucket_of(e.day, e.value) as usize;
+        self.buckets[at] = if self.buckets[at] == 0 {
+            k + 1
+        } else {
+            CROWDED
+        };
+    }
+
+    // None of the first k entries, for sure, is withdrawn with the day and the value of this one. Where a bucket is crowded, nobody knows.
+    pub(crate) fn is_clear(&self, body: Body, k: u8, e: Entry) -> bool
+        requires { (k ≤ body.most) × Indexed body.bytes.now k self.now.buckets }
+        ensures { result ≡ true → any (has_read e.day e.value) (withdrawn (firsts body.entry k)) ≡ false }
+    {
+        let there = self.there(e.day, e.value);
+        if there == 0 {
+            return true;
+        }
+        if k < there {
+            return false;
+        }
+        !has_read(e.day, e.value, body.at(there - 1))
+    }
+
+    // One of the first m entries is withdrawn with this day and value. Only where the bucket is crowded are the entries gone through.
+    pub(crate) fn has_withdrawn(&self, body: Body, m: u8, day: u16, value: u32) -> bool
+        requires { (m ≤ body.most) × Indexed body.bytes.now m self.now.buckets }
+        ensures { result ≡ any (has_read day value) (withdrawn (firsts body.entry m)) }
+    {
+        let there = self.there(day, value);
+        if there == 0 {
+            return false;
+        }
+        if m < there {
+            return is_among(body, m, day, value);
+        }
+        let e = body.at(there - 1);
+        is_withdrawn(e) & has_read(day, value, e)
+    }
 }

@@ -4,22 +4,11 @@ ghost use Rattle.judge.specs.Inner.Plain.{PlainLetter};
 
 use crate::marks::is_marked;
 
-#[derive(Clone, Copy)]
-struct Letters;
-
-impl Letters {
-    // A bit for each letter from 64 to 127: C, E, R, S, T, U, X and Y.
-    const PLAIN: u64 = 54263848;
-}
+// A bit for each letter from 64 to 127: C, E, R, S, T, U, X and Y.
+const PLAIN: u64 = 54263848;
 
 pub(crate) fn is_plain_letter(letter: u8) -> bool
     ensures { result ≡ true → PlainLetter letter }
 {
-    if letter < 64 {
-        return false;
-    }
-    if 127 < letter {
-        return false;
-    }
-    is_marked(Letters::PLAIN, letter as u32)
+    (64..=127).contains(&letter) && is_marked(PLAIN, letter as u32)
 }

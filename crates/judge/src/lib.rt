@@ -3,14 +3,15 @@
 
 mod apart;
 pub mod area;
+pub mod body;
 mod carry;
 mod halving;
 mod index;
 mod letters;
-pub mod limits;
 mod marks;
 mod opening;
 pub mod pass;
 pub mod passed;
 mod read;
 pub mod run;
+pub mod sound;

@@ -1,17 +1,12 @@
 // The whole of a body passed, and whether a read that is asked for is among the withdrawn ones.
-ghost use Rattle.std.specs.Prelude.{◌≡◌, true, ◌-◌, ◌≤◌, length};
-ghost use Rattle.register.specs.declared.head.Head.{Head};
-ghost use Rattle.register.specs.Entries.{entry_start};
+ghost use Rattle.std.specs.Prelude.{◌≡◌, true, ◌-◌, ◌≤◌};
 ghost use Rattle.journal.specs.Journal.{count_from};
-ghost use Rattle.judge.specs.Inner.Plain.{IsLimits};
 ghost use Rattle.judge.specs.Inner.Pass.{Starts, HasPassed};
 
-use crate::index::{Index, has_withdrawn};
-use crate::limits::Limits;
+use crate::body::Body;
+use crate::index::Index;
 use crate::opening::open_over;
 use crate::pass::{Pass, pass_rest};
-use register::area::Layout;
-use register::head::Head;
 
 #[derive(Clone, Copy)]
 pub struct Passed {
@@ -20,55 +15,37 @@ pub struct Passed {
     pub withdrawn: bool,
 }
 
-// Past all entries that follow the first ones, with an index, in which the read that is asked for is looked up.
-fn pass_indexed(
-    body: &[u8],
-    head: Head,
-    limits: Limits,
-    opened: Pass,
-    day: u16,
-    value: u32,
-) -> Passed
-    requires { (entry_start limits.most ≤ length body.now) × IsLimits head limits × Starts body.now limits opened }
-    ensures { HasPassed head body.now day value result }
+// Past all entries that follow the first ones, with an index, in which the read that is asked for is looked up. Its day and value stay apart, as
+// `has_read` and `judge_area` take them.
+fn pass_indexed(body: Body, opened: Pass, day: u16, value: u32) -> Option<Passed>
+    requires { Starts body opened }
+    ensures { HasPassed body.entry.head body.entry.bytes.now day value result }
 {
-    let mut index = [0; Index::BUCKETS];
-    let pass = pass_rest(body, head, limits, &mut index, opened);
-    if !pass.ordered {
-        return Passed {
-            pass,
-            withdrawn: false,
-        };
-    }
-    let run = pass.run;
-    let withdrawn = has_withdrawn(body, run.count, &index, day, value);
-    Passed { pass, withdrawn }
+    let mut index = Index::new();
+    let pass = pass_rest(body, &mut index, opened)?;
+    let withdrawn = index.has_withdrawn(body, pass.run.count, day, value);
+    Some(Passed { pass, withdrawn })
 }
 
 // No entry follows the first `at`.
-fn is_end(body: &[u8], most: u8, at: u8) -> bool
-    requires { (entry_start most ≤ length body.now) × (at ≤ most) }
-    ensures { result ≡ true → count_from (most - at) at body.now ≡ at }
+fn is_end(body: Body, at: u8) -> bool
+    requires { at ≤ body.most }
+    ensures { result ≡ true → count_from (body.entry.most - at) at body.entry.bytes.now ≡ at }
 {
-    if at == most {
-        return true;
-    }
-    body[Layout::ENTRY_BYTES * (at as usize)] == 0
+    (at == body.most) || (body.kind_at(at) == 0)
 }
 
-// Whether the entries of a body are in order, to the first zero kind byte, and whether a read is among the withdrawn ones. An index is made
-// only where there is more than the reads that a journal opens with.
-pub(crate) fn pass_over(body: &[u8], head: Head, limits: Limits, day: u16, value: u32) -> Passed
-    requires { (entry_start limits.most ≤ length body.now) × IsLimits head limits }
-    ensures { HasPassed head body.now day value result }
+// Past the entries of a body, to the first zero kind byte, if they are in order, and whether a read is among the withdrawn ones. An index is
+// made only where there is more than the reads that a journal opens with.
+pub(crate) fn pass_over(body: Body, day: u16, value: u32) -> Option<Passed>
+    ensures { HasPassed body.entry.head body.entry.bytes.now day value result }
 {
-    let opened = open_over(body, limits);
-    let run = opened.run;
-    if is_end(body, limits.most, run.count) {
-        return Passed {
-            pass: opened,
+    let pass = open_over(body);
+    if is_end(body, pass.run.count) {
+        return Some(Passed {
+            pass,
             withdrawn: false,
-        };
+        });
     }
-    pass_indexed(body, head, limits, opened, day, value)
+    pass_indexed(body, pass, day, value)
 }

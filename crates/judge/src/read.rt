@@ -1,11 +1,7 @@
-// Reading the entries of an area. The register has functions that ask nothing for this; in the loops over entries these, which ask that the bytes
+// Numbers in the bytes of an area. The register has functions that ask nothing for this; in the loops over entries these, which ask that the bytes
 // are there, take three instructions less an entry.
 ghost use Rattle.std.specs.Prelude.{◌≡◌, ◌+◌, ◌≤◌, length};
 ghost use Rattle.register.specs.Bytes.{word_at, long_at};
-ghost use Rattle.register.specs.Entries.{entry_start, entry_at};
-
-use register::area::Layout;
-use terms::entry::Entry;
 
 pub(crate) fn word_at(bytes: &[u8], i: usize) -> u16
     requires { i + 2 ≤ length bytes.now }
@@ -23,22 +19,4 @@ pub(crate) fn long_at(bytes: &[u8], i: usize) -> u32
     let low = word_at(bytes, i) as u32;
     let high = word_at(bytes, i + 2) as u32;
     low + 65536 * high
-}
-
-// The entry after k others.
-pub(crate) fn entry_at(body: &[u8], k: u8) -> Entry
-    requires { entry_start (k + 1) ≤ length body.now }
-    ensures { result ≡ entry_at body.now (entry_start k) }
-{
-    let at = Layout::ENTRY_BYTES * (k as usize);
-    let day = word_at(body, at + 1);
-    let value = long_at(body, at + 3);
-    Entry {
-        kind: body[at],
-        day,
-        value,
-        letter: body[at + 7],
-        indicator: body[at + 8],
-        flag: body[at + 9],
-    }
 }

@@ -1,24 +1,22 @@
 // Runs of plain entries: standing and withdrawn reads that few of the rules concern. Most entries are of these, and everything else takes
 // the way that knows all the rules, so that the tests here need only never say yes wrongly.
-ghost use Rattle.std.specs.Prelude.{◌≡◌, true, cond, List, [], ◌∷◌, ◌+◌, ◌-◌, ◌≤◌, ◌<◌, eqb, length};
+ghost use Rattle.std.specs.Prelude.{◌≡◌, true, cond, List, ◌∷◌, ◌+◌, ◌≤◌, ◌<◌};
 ghost use Rattle.terms.specs.declared.entry.Entry.{Entry};
 ghost use Rattle.terms.specs.Entry.{is_standing};
-ghost use Rattle.register.specs.Entries.{entry_start};
-ghost use Rattle.journal.specs.Journal.{entries_to, is_flagged};
+ghost use Rattle.journal.specs.Journal.{is_flagged};
 ghost use Rattle.judge.specs.Inner.Index.{Indexed};
-ghost use Rattle.judge.specs.Inner.Run.{run_of, ran_to};
-ghost use Rattle.judge.specs.Inner.Plain.{PlainBody, Plain, RunsTo, StandsTo};
+ghost use Rattle.judge.specs.Inner.Run.{run_of, ran_to, IsRun};
+ghost use Rattle.judge.specs.Inner.Plain.{PlainBody, Plain, PlainNext, RunsTo, StandsTo};
 
-use crate::index::{Index, bucket_of, is_clear};
+use crate::body::Body;
+use crate::index::Index;
 use crate::letters::is_plain_letter;
-use crate::limits::Limits;
-use crate::read::entry_at;
 use journal::order::{is_standing, is_withdrawn};
 use terms::entry::Entry;
 use terms::submission::Indicator;
 
 // What is kept of some of the entries.
-#[derive(Clone, Copy)]
+#[derive(Clone, Copy, Default)]
 pub struct Run {
     // The value of the first standing read.
     pub first: u32,
@@ -32,53 +30,20 @@ pub struct Run {
     pub newest: u8,
 }
 
-pub(crate) fn start_run() -> Run
-    ensures { result ≡ run_of [] }
-{
-    Run {
-        first: 0,
-        day: 0,
-        count: 0,
-        standing: 0,
-        flagged: 0,
-        newest: 0,
-    }
-}
-
-// The flagged ones with one standing read more.
-fn flagged_with(flagged: u8, e: Entry) -> u8
-    requires { flagged < 255 }
-    ensures { result ≡ cond (is_flagged e) (flagged + 1) flagged }
-{
-    if e.flag == 1 {
-        return flagged + 1;
-    }
-    flagged
-}
-
-// The value of the first standing read, with one standing read more.
-fn first_with(run: Run, e: Entry) -> u32
-    ensures { result ≡ cond (eqb run.standing 0) e.value run.first }
-{
-    if run.standing == 0 {
-        return e.value;
-    }
-    run.first
-}
-
 // One standing read more.
 pub(crate) fn stand(run: Run, flagged: u8, e: Entry) -> Run
     requires { (run.count < 255) × (run.standing ≤ run.count) }
     ensures { (result.count ≡ run.count + 1) × ((es : List Entry) → is_standing e ≡ true → flagged ≡ cond (is_flagged e) (run.flagged + 1) run.flagged → run ≡ run_of es → result ≡ run_of (e ∷ es)) }
 {
-    let first = first_with(run, e);
-    let count = run.count + 1;
-    let standing = run.standing + 1;
     Run {
-        first,
+        first: if run.standing == 0 {
+            e.value
+        } else {
+            run.first
+        },
         day: e.day,
-        count,
-        standing,
+        count: run.count + 1,
+        standing: run.standing + 1,
         flagged,
         newest: run.count,
     }
@@ -90,28 +55,22 @@ pub(crate) fn count(run: Run, e: Entry) -> Run
     ensures { (es : List Entry) → run ≡ run_of es → result ≡ run_of (e ∷ es) }
 {
     if is_standing(e) {
-        let flagged = flagged_with(run.flagged, e);
-        return stand(run, flagged, e);
+        return stand(run, run.flagged + u8::from(e.flag == 1), e);
     }
-    let count = run.count + 1;
     Run {
-        first: run.first,
-        day: run.day,
-        count,
-        standing: run.standing,
-        flagged: run.flagged,
-        newest: run.newest,
+        count: run.count + 1,
+        ..run
     }
 }
 
 // A body that may follow whatever stands, after the day of the last standing read. Indicator and flag are tested together.
-fn is_plain_body(limits: Limits, last: u16, e: Entry) -> bool
-    ensures { result ≡ true → PlainBody limits last e }
+fn is_plain_body(limit: u32, last: u16, e: Entry) -> bool
+    ensures { result ≡ true → PlainBody limit last e }
 {
     if e.day <= last {
         return false;
     }
-    if limits.limit <= e.value {
+    if limit <= e.value {
         return false;
     }
     if !is_plain_letter(e.letter) {
@@ -119,104 +78,86 @@ fn is_plain_body(limits: Limits, last: u16, e: Entry) -> bool
     }
     let indicator = e.indicator as u16;
     let flag = e.flag as u16;
-    indicator + 256 * flag <= (Indicator::TRUE as u16)
+    indicator + 256 * flag <= (Indicator::True as u16)
 }
 
-fn is_plain(limits: Limits, last: u16, e: Entry) -> bool
-    ensures { result ≡ true → Plain limits last e }
+fn is_plain(limit: u32, last: u16, e: Entry) -> bool
+    ensures { result ≡ true → Plain limit last e }
 {
-    if !is_standing(e) {
-        return false;
-    }
-    is_plain_body(limits, last, e)
+    is_standing(e) && is_plain_body(limit, last, e)
 }
 
-// The run after plain entries alone, to a count.
+// A run after plain entries alone, to a count.
 fn run_to(from: Run, count: u8, day: u16, newest: u8, standing: u8) -> Run
     ensures { result ≡ ran_to from count day newest standing }
 {
     Run {
-        first: from.first,
-        day,
         count,
-        standing,
-        flagged: from.flagged,
+        day,
         newest,
+        standing,
+        ..from
     }
 }
 
-// One less, and 0 of 0.
-pub(crate) fn one_less(k: u8) -> u8
-    ensures { result ≡ k - 1 }
-{
-    if k == 0 {
-        return 0;
-    }
-    k - 1
-}
-
-// Past the plain standing reads that follow where all others stand, so that none may clash. It carries only a count and a day.
-pub(crate) fn plain_over(body: &[u8], limits: Limits, from: Run) -> Run
-    requires { (entry_start limits.most ≤ length body.now) × (from.count ≤ limits.most) × (from ≡ run_of (entries_to from.count body.now)) × (from.standing ≡ 0 → ⊥) }
-    ensures { StandsTo body.now limits from result }
+// Past the plain standing reads that follow where all others stand, so that none may clash. It carries only a count and a day. A `for` over
+// the range takes two instructions more an entry here, and a run that is carried whole seven.
+pub(crate) fn plain_over(body: Body, from: Run) -> Run
+    requires { IsRun body from × (from.standing ≡ 0 → ⊥) }
+    ensures { StandsTo body.entry from result }
 {
     if from.standing != from.count {
         return from;
     }
     let mut day = from.day;
     let mut k = from.count;
-    while k < limits.most {
-        let e = entry_at(body, k);
-        if !is_plain(limits, day, e) {
+    while k < body.most {
+        let e = body.at(k);
+        if !is_plain(body.limit, day, e) {
             break;
         }
         day = e.day;
         k += 1;
     }
-    run_to(from, k, day, one_less(k), k)
+    run_to(from, k, day, k.saturating_sub(1), k)
 }
 
-// Past the plain entries that follow. A withdrawn one is put into the index; where the bucket of a standing one leaves it in doubt, the run
-// ends. What `index::put` does is written out here: a call of it takes three instructions more.
-pub(crate) fn run_over(
-    body: &[u8],
-    limits: Limits,
-    index: &mut [u8; Index::BUCKETS],
-    from: Run,
-) -> Run
-    requires counted { (entry_start limits.most ≤ length body.now) × (from.count ≤ limits.most) × (from ≡ run_of (entries_to from.count body.now)) × (from.standing ≡ 0 → ⊥) }
-    requires indexed { Indexed body.now from.count index.old }
-    ensures { RunsTo body.now limits from result × Indexed body.now result.count index.new }
+// A plain entry after k others, withdrawn or, for sure, with no read of a withdrawn one. Where the bucket of a standing one leaves it in doubt, it
+// is left to the way that knows all the rules.
+fn is_plain_next(body: Body, index: &Index, k: u8, last: u16, e: Entry) -> bool
+    requires { (k ≤ body.most) × Indexed body.bytes.now k index.now.buckets }
+    ensures { result ≡ true → PlainNext body.entry k last e }
 {
-    let mut k = from.count;
+    if !is_plain_body(body.limit, last, e) {
+        return false;
+    }
+    if is_standing(e) {
+        return index.is_clear(body, k, e);
+    }
+    is_withdrawn(e)
+}
+
+// Past the plain entries that follow. A withdrawn one is put into the index.
+pub(crate) fn run_over(body: Body, index: &mut Index, from: Run) -> Run
+    requires counted { IsRun body from × (from.standing ≡ 0 → ⊥) }
+    requires indexed { Indexed body.bytes.now from.count index.old.buckets }
+    ensures { RunsTo body.entry from result × Indexed body.entry.bytes.now result.count index.new.buckets }
+{
     let mut day = from.day;
     let mut newest = from.newest;
     let mut standing = from.standing;
-    while k < limits.most {
-        let e = entry_at(body, k);
-        if !is_plain_body(limits, day, e) {
-            break;
+    for k in from.count..body.most {
+        let e = body.at(k);
+        if !is_plain_next(body, index, k, day, e) {
+            return run_to(from, k, day, newest, standing);
         }
-        let at = bucket_of(e.day, e.value) as usize;
-        let there = index[at];
         if is_standing(e) {
-            if !is_clear(body, k, there, e) {
-                break;
-            }
             day = e.day;
             newest = k;
             standing += 1;
         } else {
-            if !is_withdrawn(e) {
-                break;
-            }
-            if there == 0 {
-                index[at] = k + 1;
-            } else {
-                index[at] = Index::CROWDED;
-            }
+            index.put(k, e);
         }
-        k += 1;
     }
-    run_to(from, k, day, newest, standing)
+    run_to(from, body.most, day, newest, standing)
 }

@@ -1,7 +1,7 @@
 -- The line of a fault, byte by byte, and how long a line is.
 use mathlib.Core.Path.{◌≡◌, refl}
 use mathlib.Core.List.{[], ◌∷◌}
-use Prim.Native.Nat.{ℕ, suc, ◌+◌, ◌≤◌, ◌<◌, ◌^◌}
+use Prim.Native.Nat.{ℕ, suc, ◌≤◌}
 use native.Mathlib.Omega.{arith}
 use lib.IntN.{ℤ, pos, negsuc}
 use lib.ListN.{length, length-append}
@@ -10,7 +10,6 @@ use Rattle.terms.specs.Number.{sheet_fault}
 use Rattle.calls.specs.declared.call.Reply.{Reply}
 use Rattle.calls.specs.declared.call.Reply.TheVariants.{Answered, Reported}
 use Rattle.lines.specs.Decimal.{digits, digit_count_in, digit_count, decimal, signed}
-use Rattle.lines.specs.Inner.Room.{Room}
 use Rattle.lines.specs.Line.{field, last_field, line_of, line_most}
 use Rattle.lines.proofs.Digits.{decimal_length}
 
@@ -40,6 +39,3 @@ line_most_lem (Answered a) =
 line_most_lem (Reported r) =
     simp length-append
     (omega (arith, field_most r.number, field_most r.standing, field_most r.flagged, last_most r.total))
-
-pub line_room : (at : ℕ) (reply : Reply) → at + line_most < 2 ^ 64 → Room at (line_of reply)
-line_room at reply h = record { fits = omega (arith, line_most_lem reply) }

@@ -1,4 +1,4 @@
 pub mod Digits
-pub mod Negated
-pub mod Pasted
 pub mod Lengths
+pub mod Pasted
+pub mod Fields

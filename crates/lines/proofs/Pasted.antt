@@ -1,15 +1,14 @@
 -- Text put into bytes: one text after another, where it stands, and the bytes around it.
 use mathlib.Core.Path.{◌≡◌, refl, sym, ◌∙◌}
 use mathlib.Core.List.{List, [], ◌∷◌, ◌++◌}
-use Prim.Native.Nat.{ℕ, suc, ◌+◌, ◌≤◌, ◌<◌, ◌^◌}
+use Prim.Native.Nat.{ℕ, suc, ◌+◌, ◌≤◌}
 use native.Mathlib.Nat.{add-zero}
 use native.Mathlib.Numerals.{add-one}
 use native.Mathlib.Omega.{arith}
-use lib.ListN.{length, set, take, drop, length-append}
+use lib.ListN.{length, set, take, drop, length-append, length-set}
 use lib.Seq.{sets, sets-eq, length-take-le, take_at}
 use Rattle.lines.specs.Put.{put_bytes}
 use Rattle.lines.specs.Put.{Put}
-use Rattle.lines.specs.Inner.Room.{Room}
 
 put_sets : (out : List ℕ) (at : ℕ) (bs : List ℕ) → put_bytes out at bs ≡ sets out at bs
 unfolding put_bytes
@@ -21,6 +20,12 @@ pub put_take : (out : List ℕ) (at : ℕ) (bs : List ℕ) → at + length bs �
 put_take out at bs h =
     let size : length (take at out ++ bs) ≡ at + length bs = simp length-append (omega (arith, length-take-le at out (omega arith))) in
     rw (put_sets, sets-eq bs out at h) (take_at (take at out ++ bs) (drop (at + length bs) out) (at + length bs) size)
+
+-- as many bytes as before
+pub put_bytes_length : (out : List ℕ) (at : ℕ) (bs : List ℕ) → length (put_bytes out at bs) ≡ length out
+unfolding put_bytes
+put_bytes_length out at [] = refl
+put_bytes_length out at (b ∷ bs) = put_bytes_length (set out at b) (at + 1) bs ∙ length-set out at b
 
 -- two texts, one after the other
 pub put_append : (out : List ℕ) (at : ℕ) (xs ys : List ℕ) → put_bytes out at (xs ++ ys) ≡ put_bytes (put_bytes out at xs) (at + length xs) ys
@@ -42,18 +47,3 @@ module _ {a : List ℕ} {at : ℕ} {xs : List ℕ} {b : List ℕ} {next : ℕ} (
         bytes = second.bytes ∙ rw (first.bytes, first.ends) (sym (put_append a at xs ys));
         ends = simp length-append (omega (arith, first.ends, second.ends));
       }
-
-  -- and a byte
-  pub put_more : (y : ℕ) {c : List ℕ} → c ≡ set b next y → Put a at (xs ++ (y ∷ [])) c (next + 1)
-  put_more y e = put_both (put_one y e)
-
-  -- room for both is room for the second after the first
-  pub room_rest : {ys : List ℕ} → Room at (xs ++ ys) → Room next ys
-  room_rest h = record { fits = omega (arith, first.ends, simp length-append at h.fits) }
-
-pub room_first : {at : ℕ} (xs ys : List ℕ) → Room at (xs ++ ys) → Room at xs
-room_first xs ys h = record { fits = omega (arith, simp length-append at h.fits) }
-
--- where text and a byte more end is a number of 64 bits too
-pub room_more : {at : ℕ} (xs : List ℕ) (y : ℕ) → Room at (xs ++ (y ∷ [])) → at + length xs + 1 < 2 ^ 64
-room_more xs y h = omega (arith, simp length-append at h.fits)

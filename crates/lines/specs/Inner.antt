@@ -1,2 +1,2 @@
--- What only inner contracts need: room for text.
-pub mod Room
+-- What only inner contracts need: text that is added to what was put.
+pub mod Adds

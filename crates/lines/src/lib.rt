@@ -2,5 +2,5 @@
 #![tactic(auto)]
 
 pub mod claims;
-mod decimal;
 pub mod line;
+mod text;

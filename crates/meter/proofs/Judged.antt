@@ -1,48 +1,37 @@
 -- What the judgement of an area of 512 bytes says of the first checks of a call.
+use Rattle.std.specs.Prelude.{Ok, Err}
 use mathlib.Core.Path.{◌≡◌, refl, sym, ◌∙◌}
 use mathlib.Core.Bool.{Bool, true, false, not, cond}
 use mathlib.Core.List.{List}
 use Prim.Native.Nat.{ℕ}
+use lib.Dec.{eqb}
 use lib.ListN.{length}
+use Rattle.terms.specs.declared.refusal.Refusal.{Refusal}
 use Rattle.terms.specs.Number.{accepted, no_meter, damaged}
+use Rattle.terms.specs.Refusal.{number_of}
 use Rattle.terms.specs.Rule.{Rule, first_broken}
+use Rattle.terms.proofs.Refusals.{refuses}
 use Rattle.register.specs.Area.{area_bytes, all_zero}
-use Rattle.judge.specs.declared.area.Summary.{Summary}
-use Rattle.judge.specs.declared.area.Judged.{Judged}
-use Rattle.judge.specs.declared.area.Judged.TheVariants.{Zero, Damaged, Sound}
+use Rattle.judge.specs.declared.sound.Judged.{Judged}
 use Rattle.journal.specs.Journal.{Journal, journal_of}
 use Rattle.journal.specs.Numbers.{area_rules}
 use Rattle.journal.specs.Sound.{is_sound}
-use Rattle.judge.specs.Inner.Judged.{summary_of, judged, Counted}
+use Rattle.judge.specs.Inner.Answered.{Judges}
 use Rattle.calls.specs.Checks.{with_journal}
 
--- by the two tests
-module _ (s : Summary) (more : ℕ) where
-  abbrev verdict : Bool → Bool → Judged
-  verdict zero sound = cond zero Zero (cond sound (Sound s) Damaged)
+-- the number of the two tests, and what is asked past them
+abbrev number : ℕ → Bool → Bool → ℕ
+number more zero sound = cond zero no_meter (cond (not sound) damaged more)
 
-  abbrev number : Bool → Bool → ℕ
-  number zero sound = cond zero no_meter (cond (not sound) damaged more)
+stopped : (more : ℕ) (zero sound : Bool) → eqb (number accepted zero sound) accepted ≡ false → number more zero sound ≡ number accepted zero sound
+stopped more true sound h = refl
+stopped more false true h = cc
+stopped more false false h = refl
 
-  if_zero : (zero sound : Bool) → verdict zero sound ≡ Zero → number zero sound ≡ no_meter
-  if_zero true sound e = refl
-  if_zero false true e = cc
-  if_zero false false e = cc
-
-  if_damaged : (zero sound : Bool) → verdict zero sound ≡ Damaged → number zero sound ≡ damaged
-  if_damaged true sound e = cc
-  if_damaged false true e = cc
-  if_damaged false false e = refl
-
-  if_sound : (zero sound : Bool) {t : Summary} → verdict zero sound ≡ Sound t → (sound ≡ true) × (t ≡ s) × (number zero sound ≡ more)
-  if_sound true sound e = (cc, cc, cc)
-  if_sound false true e = (refl, cc, refl)
-  if_sound false false e = (cc, cc, cc)
-
-  if_accepted : (zero sound : Bool) → number zero sound ≡ accepted → sound ≡ true
-  if_accepted true sound e = cc
-  if_accepted false true e = refl
-  if_accepted false false e = cc
+passed : (more : ℕ) (zero sound : Bool) → accepted ≡ number accepted zero sound → number more zero sound ≡ more
+passed more true sound e = cc
+passed more false true e = refl
+passed more false false e = cc
 
 module _ (rules : Journal → List Rule) (area : List ℕ) (size : length area ≡ area_bytes) where
   abbrev first_number : ℕ
@@ -51,25 +40,19 @@ module _ (rules : Journal → List Rule) (area : List ℕ) (size : length area �
   abbrev journal_number : ℕ
   journal_number = first_broken (rules (journal_of area))
 
-  area_first : first_number ≡ number (summary_of (journal_of area)) journal_number (all_zero area) (is_sound area)
+  area_first : first_broken (area_rules area) ≡ number accepted (all_zero area) (is_sound area)
   unfolding area_rules
   area_first = refl
 
-  area_judged : judged area ≡ verdict (summary_of (journal_of area)) journal_number (all_zero area) (is_sound area)
-  unfolding judged
-  area_judged = rw size
+  journal_first : first_number ≡ number journal_number (all_zero area) (is_sound area)
+  unfolding area_rules
+  journal_first = refl
 
-  pub zero_number : judged area ≡ Zero → first_number ≡ no_meter
-  zero_number e = area_first ∙ if_zero (summary_of (journal_of area)) journal_number (all_zero area) (is_sound area) (rw area_judged at e)
+  module _ {day value : ℕ} where
+    pub refused_number : {refusal : Refusal} → Judges area day value (Err refusal) → first_number ≡ number_of refusal
+    refused_number {refusal} is =
+        let e : number_of refusal ≡ number accepted (all_zero area) (is_sound area) = is.number_is size ∙ area_first in
+        journal_first ∙ stopped journal_number (all_zero area) (is_sound area) (rw (← e) (refuses refusal)) ∙ sym e
 
-  pub damaged_number : judged area ≡ Damaged → first_number ≡ damaged
-  damaged_number e = area_first ∙ if_damaged (summary_of (journal_of area)) journal_number (all_zero area) (is_sound area) (rw area_judged at e)
-
-  pub sound_number : {t : Summary} → judged area ≡ Sound t → Counted area t × (first_number ≡ journal_number)
-  sound_number e =
-      let s = if_sound (summary_of (journal_of area)) journal_number (all_zero area) (is_sound area) (rw area_judged at e) in
-      (record { long = size; sound = s.0; summary = s.1 }, area_first ∙ s.2)
-
-  -- an area that no check refuses is sound
-  pub accepted_sound : first_number ≡ accepted → is_sound area ≡ true
-  accepted_sound e = if_accepted (summary_of (journal_of area)) journal_number (all_zero area) (is_sound area) (sym area_first ∙ e)
+    pub sound_number : {j : Judged} → Judges area day value (Ok j) → first_number ≡ journal_number
+    sound_number is = journal_first ∙ passed journal_number (all_zero area) (is_sound area) (is.number_is size ∙ area_first)

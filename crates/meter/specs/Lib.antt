@@ -2,4 +2,3 @@ pub mod Part
 pub mod Search
 pub mod Withdrawal
 pub mod Examples
-pub mod Inner

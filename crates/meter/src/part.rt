@@ -4,8 +4,8 @@ ghost use Rattle.register.specs.Area.{area_bytes};
 ghost use Rattle.calls.specs.Calls.{length_in, journal_length};
 ghost use Rattle.meter.specs.Part.{Part};
 
-use judge::area::{Judged, judge_area};
-use place::{Located, locate};
+use judge::area::judge_area;
+use place::locate;
 use register::area::Layout;
 use register::head::offset_after;
 
@@ -14,15 +14,12 @@ fn length_in(area: &[u8]) -> usize
     requires { length area.now ≡ area_bytes }
     ensures { result ≡ length_in area.now }
 {
-    let judgement = judge_area(area, 0, 0);
-    let found = judgement.found;
-    match found {
-        Judged::Zero => 0,
-        Judged::Damaged => 0,
-        Judged::Sound(t) => {
-            let head = t.head;
-            offset_after(head, t.entries) as usize
+    match judge_area(area, 0, 0) {
+        Ok(judged) => {
+            let t = judged.journal.summary;
+            offset_after(t.head, t.entries) as usize
         }
+        Err(_) => 0,
     }
 }
 
@@ -31,11 +28,11 @@ pub fn journal_length(register: &[u8], place: u16) -> usize
     ensures { result ≡ journal_length place register.now }
 {
     match locate(register, place) {
-        Located::Refused(_) => 0,
-        Located::At(start) => {
+        Ok(start) => {
             let end = start + Layout::AREA_BYTES;
             length_in(&register[start..end])
         }
+        Err(_) => 0,
     }
 }
 

@@ -1,157 +1,137 @@
 // Withdraw: the last standing read is marked withdrawn, and its advance taken back.
 ghost use Rattle.std.specs.Prelude.{◌≡◌, neg_ℤ, length};
+ghost use Rattle.terms.specs.Answer.{as_answer};
 ghost use Rattle.terms.specs.Entry.{slot_at};
+ghost use Rattle.terms.specs.Refusal.{number_in};
 ghost use Rattle.terms.specs.Rule.{first_broken};
 ghost use Rattle.rules.specs.Volume.{advance_over};
 ghost use Rattle.register.specs.Area.{area_bytes};
-ghost use Rattle.journal.specs.Journal.{Journal, journal_of, standing};
-ghost use Rattle.judge.specs.Inner.Judged.{summary_of, Counted};
+ghost use Rattle.journal.specs.Journal.{journal_of, standing};
 ghost use Rattle.calls.specs.Checks.{is_not_last, withdraw_rules};
 ghost use Rattle.calls.specs.Calls.{acted, withdrawn_answer, withdrawn_bytes, withdraw_in, done, step};
-ghost use Rattle.meter.specs.Inner.Withdrawal.{Decides};
+ghost use Rattle.meter.specs.Withdrawal.{Withdraws, Decides};
 
 use arithmetic::advance::advance;
 use calls::call::{Call, Reply};
-use judge::area::{Judged, Summary, judge_area};
-use place::{Located, locate};
+use judge::area::judge_area;
+use judge::sound::Sound;
+use place::locate;
 use reads::found::has_standing;
 use reads::recent::{last, second};
 use register::area::Layout;
 use register::head::offset_after;
 use register::write::{put_byte, put_entry};
-use terms::answer::{Answer, accept, refuse};
-use terms::entry::{Entry, Kind, Slot};
-use terms::number::Number;
+use terms::answer::Accepted;
+use terms::entry::{Entry, Kind};
+use terms::refusal::Refusal;
 
-// A refusal, or what was counted of the journal that the call is to change.
+// What an accepted withdrawal changes, and what it answers.
 #[derive(Clone, Copy)]
-pub enum Decided {
-    Refused(u8),
-    Taken(Summary),
+pub(crate) struct Withdrawal {
+    // The byte of the area at which the last standing read starts.
+    pub newest: u16,
+    // The byte after the kept entries, where a held one starts.
+    pub end: u16,
+    pub held: bool,
+    pub answer: Accepted,
 }
 
 // The last standing read has another day or value, or there is none. What was counted has both, so no entry is read.
-fn is_not_last(t: Summary, day: u16, value: u32) -> bool
-    ensures { (j : Journal) → t ≡ summary_of j → result ≡ is_not_last day value (slot_at (standing j.entries) 0) }
+fn is_not_last(journal: &Sound, day: u16, value: u32) -> bool
+    ensures { result ≡ is_not_last day value (slot_at (standing (journal_of journal.now.area.now).entries) 0) }
 {
-    let counts = t.counts;
-    !((0 < counts.standing) & ((t.day == day) & (t.last == value)))
+    let t = journal.summary;
+    !((0 < t.counts.standing) & ((t.day == day) & (t.last == value)))
 }
 
-// 22, 23, 28 or 0 for a sound journal. The last standing read needs no search, so only a refusal makes one; where it stands alone it is the
+// 22, 23 or 28 for a sound journal. The last standing read needs no search, so only a refusal makes one; where it stands alone it is the
 // oldest too.
-fn check_withdrawal(area: &[u8], t: Summary, day: u16, value: u32) -> u8
-    requires { Counted area.now t }
-    ensures { result ≡ first_broken (withdraw_rules day value (journal_of area.now)) }
+fn check_withdrawal(journal: &Sound, day: u16, value: u32) -> Result<(), Refusal>
+    ensures { number_in result ≡ first_broken (withdraw_rules day value (journal_of journal.now.area.now)) }
 {
-    if is_not_last(t, day, value) {
-        if has_standing(area, t, day, value) {
-            return Number::NOT_LAST;
+    if is_not_last(journal, day, value) {
+        if has_standing(journal, day, value) {
+            return Err(Refusal::NotLast);
         }
-        return Number::NOT_STANDING;
+        return Err(Refusal::NotStanding);
     }
-    let head = t.head;
-    let counts = t.counts;
-    if head.carried & (counts.standing == 1) {
-        return Number::OLDEST_KEPT;
+    let t = journal.summary;
+    if t.head.carried & (t.counts.standing == 1) {
+        return Err(Refusal::OldestKept);
     }
-    Number::ACCEPTED
-}
-
-// 3, 4, 22, 23, 28, or what was counted of the journal to change.
-fn decide_withdrawal(area: &[u8], day: u16, value: u32) -> Decided
-    requires { length area.now ≡ area_bytes }
-    ensures { Decides day value area.now result }
-{
-    let judgement = judge_area(area, 0, 0);
-    let found = judgement.found;
-    match found {
-        Judged::Zero => Decided::Refused(Number::NO_METER),
-        Judged::Damaged => Decided::Refused(Number::DAMAGED),
-        Judged::Sound(t) => {
-            let number = check_withdrawal(area, t, day, value);
-            if number != Number::ACCEPTED {
-                return Decided::Refused(number);
-            }
-            Decided::Taken(t)
-        }
-    }
+    Ok(())
 }
 
 // The advance of a read over the one before it, negated. The match bounds that one's value, so the negation fits.
-fn take_back(n: u8, r0: Entry, second: Slot) -> i64
+fn take_back(n: u8, r0: Entry, second: Option<Entry>) -> i64
     ensures { result ≡ neg_ℤ (advance_over n r0.value r0.flag second) }
 {
     match second {
-        Slot::Read(r1) => -advance(n, r0.value, r0.flag, r1.value),
-        Slot::Empty => 0,
+        Some(r1) => -advance(n, r0.value, r0.flag, r1.value),
+        None => 0,
     }
 }
 
 // The last read's flag and its advance negated.
-fn withdrawn_answer(n: u8, last: Slot, second: Slot) -> Answer
-    ensures { result ≡ withdrawn_answer n last second }
+fn withdrawn_answer(n: u8, last: Option<Entry>, second: Option<Entry>) -> Accepted
+    ensures { as_answer (Ok result) ≡ withdrawn_answer n last second }
 {
     match last {
-        Slot::Read(r0) => Answer {
-            number: Number::ACCEPTED,
+        Some(r0) => Accepted {
             flag: r0.flag,
             advance: take_back(n, r0, second),
         },
-        Slot::Empty => accept(),
+        None => Accepted::ZEROS,
     }
 }
 
-// The entry at byte `newest` is marked; a held one, at byte `end`, is zeroed.
-fn mark_withdrawn(area: &mut [u8], newest: u16, end: u16, held: bool)
-    ensures { area.new ≡ withdrawn_bytes newest end held area.old }
+// All entries but a held one are kept.
+fn withdrawal_of(journal: &Sound) -> Withdrawal
+    ensures { Withdraws journal.now.area.now result }
 {
-    put_byte(area, newest as usize, Kind::WITHDRAWN);
-    if held {
-        put_entry(
-            area,
-            end,
-            Entry {
-                kind: 0,
-                day: 0,
-                value: 0,
-                letter: 0,
-                indicator: 0,
-                flag: 0,
-            },
-        );
+    let t = journal.summary;
+    Withdrawal {
+        newest: offset_after(t.head, t.counts.newest),
+        end: offset_after(t.head, t.counts.kept),
+        held: t.counts.kept != t.entries,
+        answer: withdrawn_answer(t.head.dials, last(journal), second(journal)),
     }
 }
 
-// The call on the area that it names. All entries but a held one are kept.
-fn withdraw_in(area: &mut [u8], day: u16, value: u32) -> Answer
+// 3, 4, 22, 23, 28, or what the withdrawal changes and answers.
+fn decide_withdrawal(area: &[u8], day: u16, value: u32) -> Result<Withdrawal, Refusal>
+    requires { length area.now ≡ area_bytes }
+    ensures { Decides day value area.now result }
+{
+    let judged = judge_area(area, 0, 0)?;
+    check_withdrawal(&judged.journal, day, value)?;
+    Ok(withdrawal_of(&judged.journal))
+}
+
+// The last standing read is marked; a held one is zeroed.
+fn mark_withdrawn(area: &mut [u8], w: Withdrawal)
+    ensures { area.new ≡ withdrawn_bytes w.newest w.end w.held area.old }
+{
+    put_byte(area, w.newest as usize, Kind::Withdrawn as u8);
+    if w.held {
+        put_entry(area, w.end, Entry::ZERO);
+    }
+}
+
+// The call on the area that it names.
+fn withdraw_in(area: &mut [u8], day: u16, value: u32) -> Result<Accepted, Refusal>
     requires { length area.old ≡ area_bytes }
-    ensures { acted (Reply.Answered result) area.new ≡ withdraw_in day value area.old }
+    ensures { acted (Reply.Answered (as_answer result)) area.new ≡ withdraw_in day value area.old }
 {
-    match decide_withdrawal(area, day, value) {
-        Decided::Refused(number) => refuse(number),
-        Decided::Taken(t) => {
-            let head = t.head;
-            let counts = t.counts;
-            let r0 = last(area, t);
-            let r1 = second(area, t);
-            let newest = offset_after(head, counts.newest);
-            let end = offset_after(head, counts.kept);
-            let answer = withdrawn_answer(head.dials, r0, r1);
-            mark_withdrawn(area, newest, end, counts.kept != t.entries);
-            answer
-        }
-    }
+    let w = decide_withdrawal(area, day, value)?;
+    mark_withdrawn(area, w);
+    Ok(w.answer)
 }
 
-pub fn withdraw(register: &mut [u8], place: u16, day: u16, value: u32) -> Answer
-    ensures { done (Reply.Answered result) register.new ≡ step (Call.Withdraw place day value) register.old }
+pub fn withdraw(register: &mut [u8], place: u16, day: u16, value: u32) -> Result<Accepted, Refusal>
+    ensures { done (Reply.Answered (as_answer result)) register.new ≡ step (Call.Withdraw place day value) register.old }
 {
-    match locate(register, place) {
-        Located::Refused(number) => refuse(number),
-        Located::At(start) => {
-            let end = start + Layout::AREA_BYTES;
-            withdraw_in(&mut register[start..end], day, value)
-        }
-    }
+    let start = locate(register, place)?;
+    let end = start + Layout::AREA_BYTES;
+    withdraw_in(&mut register[start..end], day, value)
 }

@@ -11,7 +11,7 @@ use Rattle.calls.specs.declared.call.Reply.TheVariants.{Answered, Reported}
 use Rattle.calls.specs.Play.{exchange, number_of}
 use Rattle.calls.proofs.Bools.{apart}
 use Rattle.calls.proofs.Replies.{is_report, is_reported}
-use Rattle.sheet.specs.Sheet.{kind_byte, kind_in, kind_of}
+use Rattle.sheet.specs.Sheet.{kind_byte, form_of}
 use Rattle.tally.specs.declared.tally.Tally.{Tally}
 use Rattle.tally.specs.Change.{taken, tally_after}
 use Rattle.necktureen.specs.Told.{told_call, told_kind, told_of, Told, kind_told, dials_of, value_of, flag_told, advance_told, exchange_told, told_by}
@@ -23,7 +23,7 @@ same false t = refl
 
 -- a call and a reply of its form
 pub tells : (call : Call) (reply : Reply) → is_reported reply ≡ is_report call → (any : Told) (t : Tally) → told_by (exchange_told (exchange call reply) any) t ≡ tally_after call reply t
-unfolding told_by exchange_told told_of told_kind told_call kind_told dials_of value_of flag_told advance_told kind_byte kind_of kind_in number_of tally_after taken is_report is_reported
+unfolding told_by exchange_told told_of told_kind told_call kind_told dials_of value_of flag_told advance_told kind_byte form_of number_of tally_after taken is_report is_reported
 tells (Enrol place Ordinary dials capacity) (Answered a) form any t = refl
 tells (Enrol place Pseudo dials capacity) (Answered a) form any t = refl
 tells (Enrol place profile dials capacity) (Reported r) form any t = absurd (apart refl form)

@@ -1,6 +1,6 @@
 -- 02, 6, A standing tally: what a program in C tells of a call and its reply, and that a tally which is told no more is kept as the paper says. A
 -- call is told by its kind in a day sheet, an enrolment's dials and a submission's value.
-use Rattle.std.specs.Prelude.{◌≡◌, Bool, true, false, List, [], ◌∷◌, ℕ, ℤ, length}
+use Rattle.std.specs.Prelude.{◌≡◌, Bool, true, false, List, [], ◌∷◌, ℕ, ℤ, length, Option, Some, None}
 use Rattle.terms.specs.declared.answer.Answer.{Answer}
 use Rattle.terms.specs.Answer.{answer}
 use Rattle.calls.specs.declared.call.Call.{Call}
@@ -12,9 +12,7 @@ use Rattle.calls.specs.Play.{Exchange, exchange, register_after, zero_register, 
 use Rattle.calls.specs.DemandThree.{run_a}
 use Rattle.sheet.specs.declared.form.Form.{Form}
 use Rattle.sheet.specs.declared.form.Form.TheVariants.{Enrol, Submit, Withdraw, Report, Fold}
-use Rattle.sheet.specs.declared.form.Kind.{Kind}
-use Rattle.sheet.specs.declared.form.Kind.TheVariants.{Known, Unknown}
-use Rattle.sheet.specs.Sheet.{kind_byte, kind_of}
+use Rattle.sheet.specs.Sheet.{kind_byte, form_of}
 use Rattle.tally.specs.declared.tally.Tally.{Tally}
 use Rattle.tally.specs.Tally.{zero_tally, tally_report}
 use Rattle.tally.specs.Change.{tally_after}
@@ -30,12 +28,12 @@ told_call Report dials value = call.Report 0
 told_call Fold dials value = call.Fold 0
 
 -- the tally after a call of this kind; an unknown kind changes nothing
-unfoldable pub told_kind : Kind → ℕ → ℕ → Answer → Tally → Tally
-told_kind (Known form) dials value a t = tally_after (told_call form dials value) (Answered a) t
-told_kind Unknown dials value a t = t
+unfoldable pub told_kind : Option Form → ℕ → ℕ → Answer → Tally → Tally
+told_kind (Some form) dials value a t = tally_after (told_call form dials value) (Answered a) t
+told_kind None dials value a t = t
 
 unfoldable pub told_of : ℕ → ℕ → ℕ → ℕ → ℕ → ℤ → Tally → Tally
-told_of kind dials value number flag advance t = told_kind (kind_of kind) dials value (answer number flag advance) t
+told_of kind dials value number flag advance t = told_kind (form_of kind) dials value (answer number flag advance) t
 
 -- ---- what there is to tell. Where there is nothing, as of the dials of a submission, a program may tell any number: none is looked at.
 pub record Told : Type 0 where

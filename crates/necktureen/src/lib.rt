@@ -4,7 +4,7 @@
 
 ghost use Rattle.std.specs.Prelude.{◌≡◌};
 ghost use Rattle.calendar.specs.Date.{date, date_of, day_of};
-ghost use Rattle.terms.specs.Answer.{answer, reported};
+ghost use Rattle.terms.specs.Answer.{answer, reported, as_answer, as_report};
 ghost use Rattle.calls.specs.Calls.{done, step, journal_length};
 ghost use Rattle.meter.specs.Search.{search_of};
 ghost use Rattle.playing.specs.Whole.{Played};
@@ -12,17 +12,45 @@ ghost use Rattle.tally.specs.Tally.{tally_report};
 ghost use Rattle.necktureen.specs.Search.{search_fields, fields_of};
 ghost use Rattle.necktureen.specs.Told.{told_of};
 
-use crate::search::search_fields;
+use crate::search::SearchFields;
 use crate::told::told;
 use calendar::date::Date;
 use calls::call::{Call, Reply};
 use tally::report::report_tally;
 use tally::tally::Tally;
+use terms::answer::{Accepted, Answer, Report, Totals};
 use terms::profile::Profile;
+use terms::refusal::Refusal;
 use terms::submission::Submission;
 
 pub mod search;
 pub mod told;
+
+// The fields of an answer where the caller wants them, and its number.
+fn tell(outcome: Result<Accepted, Refusal>, flag: &mut u8, advance: &mut i64) -> u8
+    ensures { answer result flag.new advance.new ≡ as_answer outcome }
+{
+    let a = Answer::from(outcome);
+    *flag = a.flag;
+    *advance = a.advance;
+    a.number
+}
+
+// The same of a report.
+fn tell_report(
+    report: Result<Totals, Refusal>,
+    standing: &mut u16,
+    flagged: &mut u16,
+    total: &mut i64,
+) -> u8
+    ensures { reported result standing.new flagged.new total.new ≡ as_report report }
+{
+    let r = Report::from(report);
+    *standing = r.standing;
+    *flagged = r.flagged;
+    *total = r.total;
+    r.number
+}
 
 #[unsafe(no_mangle)]
 pub extern "C" fn necktureen_enrol(
@@ -36,10 +64,7 @@ pub extern "C" fn necktureen_enrol(
     ensures { done (Reply.Answered (answer result flag.new advance.new)) register.new ≡ step (Call.Enrol place Profile.Ordinary dials capacity) register.old }
 {
     let a = meter::enrol::enrol(register, place, Profile::Ordinary, dials, capacity);
-    let moved = a.advance;
-    *flag = a.flag;
-    *advance = moved;
-    a.number
+    tell(a, flag, advance)
 }
 
 // Enrols a pseudo meter, which takes types I and F only.
@@ -55,12 +80,10 @@ pub extern "C" fn necktureen_enrol_pseudo(
     ensures { done (Reply.Answered (answer result flag.new advance.new)) register.new ≡ step (Call.Enrol place Profile.Pseudo dials capacity) register.old }
 {
     let a = meter::enrol::enrol(register, place, Profile::Pseudo, dials, capacity);
-    let moved = a.advance;
-    *flag = a.flag;
-    *advance = moved;
-    a.number
+    tell(a, flag, advance)
 }
 
+// C hands the fields of a submission one by one, so this function and the next each name them.
 #[unsafe(no_mangle)]
 pub extern "C" fn necktureen_submit(
     register: &mut [u8],
@@ -84,11 +107,7 @@ pub extern "C" fn necktureen_submit(
         indicator,
         reread,
     };
-    let a = submit::submit::submit(register, place, s);
-    let moved = a.advance;
-    *flag = a.flag;
-    *advance = moved;
-    a.number
+    tell(submit::submit::submit(register, place, s), flag, advance)
 }
 
 // What a submission would be answered: the register is lent for reading alone.
@@ -115,11 +134,7 @@ pub extern "C" fn necktureen_trial(
         indicator,
         reread,
     };
-    let a = submit::trial::trial(register, place, s);
-    let moved = a.advance;
-    *flag = a.flag;
-    *advance = moved;
-    a.number
+    tell(submit::trial::trial(register, place, s), flag, advance)
 }
 
 #[unsafe(no_mangle)]
@@ -134,10 +149,7 @@ pub extern "C" fn necktureen_withdraw(
     ensures { done (Reply.Answered (answer result flag.new advance.new)) register.new ≡ step (Call.Withdraw place day value) register.old }
 {
     let a = meter::withdraw::withdraw(register, place, day, value);
-    let moved = a.advance;
-    *flag = a.flag;
-    *advance = moved;
-    a.number
+    tell(a, flag, advance)
 }
 
 #[unsafe(no_mangle)]
@@ -149,11 +161,7 @@ pub extern "C" fn necktureen_fold(
 ) -> u8
     ensures { done (Reply.Answered (answer result flag.new advance.new)) register.new ≡ step (Call.Fold place) register.old }
 {
-    let a = fold::fold::fold(register, place);
-    let moved = a.advance;
-    *flag = a.flag;
-    *advance = moved;
-    a.number
+    tell(fold::fold::fold(register, place), flag, advance)
 }
 
 #[unsafe(no_mangle)]
@@ -166,12 +174,8 @@ pub extern "C" fn necktureen_report(
 ) -> u8
     ensures { done (Reply.Reported (reported result standing.new flagged.new total.new)) register.now ≡ step (Call.Report place) register.now }
 {
-    let a = meter::report::report(register, place);
-    let sum = a.total;
-    *standing = a.standing;
-    *flagged = a.flagged;
-    *total = sum;
-    a.number
+    let r = meter::report::report(register, place);
+    tell_report(r, standing, flagged, total)
 }
 
 // How long the meter's journal is, from 512 × place on: 0 where a report is refused.
@@ -197,7 +201,7 @@ pub extern "C" fn necktureen_search(
 ) -> u8
     ensures { search_fields result found.new value.new letter.new indicator.new flag.new compared.new ≡ fields_of (search_of place day register.now) }
 {
-    let a = search_fields(meter::search::search(register, place, day));
+    let a = SearchFields::from(meter::search::search(register, place, day));
     *found = a.found;
     *value = a.value;
     *letter = a.letter;
@@ -231,17 +235,6 @@ pub extern "C" fn necktureen_tally_change(
     *tally = told(*tally, kind, dials, value, number, flag, advance);
 }
 
-fn put_report(t: Tally, standing: &mut u16, flagged: &mut u16, total: &mut i64) -> u8
-    ensures { reported result standing.new flagged.new total.new ≡ tally_report t }
-{
-    let a = report_tally(t);
-    let sum = a.total;
-    *standing = a.standing;
-    *flagged = a.flagged;
-    *total = sum;
-    a.number
-}
-
 // A report from a tally: it is lent no register.
 #[unsafe(no_mangle)]
 pub extern "C" fn necktureen_tally_report(
@@ -252,7 +245,7 @@ pub extern "C" fn necktureen_tally_report(
 ) -> u8
     ensures { reported result standing.new flagged.new total.new ≡ tally_report tally.now }
 {
-    put_report(*tally, standing, flagged, total)
+    tell_report(report_tally(*tally), standing, flagged, total)
 }
 
 // The date of a day: zeros for day 0.

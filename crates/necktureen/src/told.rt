@@ -4,13 +4,14 @@ ghost use Rattle.necktureen.specs.Examples.{ToldExamplesHold};
 ghost use Rattle.necktureen.specs.Told.{told_call, told_of, ToldIsEnough, ToldTalliesReport};
 
 use calls::call::{Call, Reply};
-use sheet::form::{Form, Kind, kind_of};
+use sheet::form::{Form, form_of};
 use tally::change::changed;
 use tally::tally::Tally;
 use terms::answer::Answer;
 use terms::submission::Submission;
 
 // A tally asks for nothing of a call but its kind, an enrolment's dials and a submission's value.
+#[tactic(auto, unfolding(crate::specs::Told::told_call))]
 fn told_call(form: Form, dials: u8, value: u32) -> Call
     ensures { result ≡ told_call form dials value }
 {
@@ -21,17 +22,17 @@ fn told_call(form: Form, dials: u8, value: u32) -> Call
             dials,
             capacity: 0,
         },
-        Form::Submit => {
-            let read = Submission {
+        Form::Submit => Call::Submit {
+            place: 0,
+            read: Submission {
                 submitted: 0,
                 day: 0,
                 value,
                 letter: 0,
                 indicator: 0,
                 reread: 0,
-            };
-            Call::Submit { place: 0, read }
-        }
+            },
+        },
         Form::Withdraw => Call::Withdraw {
             place: 0,
             day: 0,
@@ -42,6 +43,8 @@ fn told_call(form: Form, dials: u8, value: u32) -> Call
     }
 }
 
+// The tally by value; the arguments are those of `necktureen_tally_change`, which C hands one by one.
+#[tactic(auto, unfolding(crate::specs::Told::told_of, crate::specs::Told::told_kind))]
 pub(crate) fn told(
     t: Tally,
     kind: u8,
@@ -58,18 +61,20 @@ pub(crate) fn told(
         flag,
         advance,
     };
-    match kind_of(kind) {
-        Kind::Known(form) => changed(t, told_call(form, dials, value), Reply::Answered(a)),
-        Kind::Unknown => t,
+    match form_of(kind) {
+        Some(form) => changed(t, told_call(form, dials, value), Reply::Answered(a)),
+        None => t,
     }
 }
 
 // What is told of a call and its reply is enough: the tally is changed as by the call itself.
+#[tactic(auto, using(crate::proofs::Enough::told_is_enough))]
 pub fn told_is_enough()
     ensures { ToldIsEnough }
 {}
 
 // A report from a tally that is told of every call on its meter is a full report, after every list of calls.
+#[tactic(auto, using(crate::proofs::Enough::told_tallies_report))]
 pub fn told_tallies_report()
     ensures { ToldTalliesReport }
 {}

@@ -8,55 +8,35 @@ use borrow.Author.Tests.{eqb-true, leb-false, not-false}
 use borrow.Rule.Slice.PartMut.{mid_of, put_mid}
 use lib.Dec.{eqb}
 use lib.ListN.{length}
+use Rattle.std.specs.Prelude.{Ok, Err}
+use Rattle.terms.specs.declared.refusal.Refusal.{Refusal}
 use Rattle.terms.specs.Number.{accepted}
+use Rattle.terms.specs.Refusal.{number_of}
+use Rattle.terms.proofs.Refusals.{refuses}
 use Rattle.register.specs.Area.{area_bytes, areas_in, register_bytes, area_of}
 use Rattle.register.proofs.Lent.{lent, back}
 use Rattle.register.proofs.Areas.{area_room, area_length, own_area}
 use Rattle.calls.specs.declared.call.Call.{Call}
 use Rattle.calls.specs.declared.call.Reply.{Reply}
 use Rattle.calls.specs.Calls.{is_misfit, is_no_place, place_number, place_of, refusal_of, acted, act, done, on_area, step}
-use Rattle.calls.proofs.Bools.{by_test}
-use Rattle.place.specs.declared.Located.{Located}
-use Rattle.place.specs.declared.Located.TheVariants.{Refused, At}
-use Rattle.place.specs.Located.{located, located_number, Locates}
-
--- ---- the two cases
-refused_if : (accepts : Bool) (start n : ℕ) {number : ℕ} → cond accepts (At start) (Refused n) ≡ Refused number → (accepts ≡ false) × (n ≡ number)
-refused_if true start n e = (cc, cc)
-refused_if false start n e = (cc, cc)
-
-at_if : (accepts : Bool) (start n : ℕ) {here : ℕ} → cond accepts (At start) (Refused n) ≡ At here → (accepts ≡ true) × (start ≡ here)
-at_if true start n e = (cc, cc)
-at_if false start n e = (cc, cc)
+use Rattle.place.specs.Located.{Locates}
 
 -- a number that is 0 is past its first rule
 past : (b : Bool) (n m : ℕ) → cond b (suc n) m ≡ 0 → (b ≡ false) × (m ≡ 0)
 past true n m h = absurd (let z : suc n ≡ 0 = h in let f : ⊥ = omega arith in f)
 past false n m h = (refl, h)
 
--- ---- what is found has the number of the first checks
-by_number : (number start : ℕ) → located_number (cond (eqb number accepted) (At start) (Refused number)) ≡ number
-unfolding located_number
-by_number number start = by_test (eqb number accepted) (λ h. rw h (sym (eqb-true number accepted h))) (λ h. rw h)
-
-pub locates : (p : ℕ) (register : List ℕ) {found : Located} → found ≡ located p register → Locates p register found
-unfolding located
-locates p register e = record { found_is = e; number_is = ap located_number e ∙ by_number (place_number p register) (area_bytes * p) }
-
 -- ---- a place that is refused
-pub is_refused : (p : ℕ) (register : List ℕ) {number : ℕ} → located p register ≡ Refused number → eqb (place_number p register) accepted ≡ false
-unfolding located
-is_refused p register e = (refused_if (eqb (place_number p register) accepted) _ _ e).0
+pub is_refused : (p : ℕ) (register : List ℕ) {refusal : Refusal} → Locates p register (Err refusal) → eqb (place_number p register) accepted ≡ false
+is_refused p register {refusal} e = rw (← e.number_is) (refuses refusal)
 
 -- ---- a place that the register has
-module _ (p : ℕ) (register : List ℕ) {start : ℕ} (e : located p register ≡ At start) where
+module _ (p : ℕ) (register : List ℕ) {start : ℕ} (e : Locates p register (Ok start)) where
   pub is_accepted_lem : place_number p register ≡ accepted
-  unfolding located
-  is_accepted_lem = eqb-true _ _ (at_if (eqb (place_number p register) accepted) _ _ e).0
+  is_accepted_lem = sym e.number_is
 
   pub starts : area_bytes * p ≡ start
-  unfolding located
-  starts = (at_if (eqb (place_number p register) accepted) _ _ e).1
+  starts = sym e.start_is
 
   pub whole : length register ≡ register_bytes
   unfolding place_number is_misfit
@@ -82,11 +62,11 @@ module _ (call : Call) (register : List ℕ) where
   abbrev p : ℕ
   p = place_of call
 
-  pub refuses : {number : ℕ} → located p register ≡ Refused number → done (refusal_of call number) register ≡ step call register
-  unfolding located step
-  refuses e = let d = refused_if (eqb (place_number p register) accepted) _ _ e in rw (d.0, d.1)
+  pub refuses_call : {refusal : Refusal} → Locates p register (Err refusal) → done (refusal_of call (number_of refusal)) register ≡ step call register
+  unfolding step
+  refuses_call e = rw (is_refused p register e, ← e.number_is)
 
-  module _ {start : ℕ} (e : located p register ≡ At start) where
+  module _ {start : ℕ} (e : Locates p register (Ok start)) where
     acts : step call register ≡ on_area p (act call (area_of p register)) register
     unfolding step
     acts = rw (is_accepted_lem p register e)

@@ -4,24 +4,17 @@
 ghost use Rattle.place.specs.Located.{Locates};
 
 use register::area::Layout;
-use terms::number::Number;
+use terms::refusal::Refusal;
 
-// The number that refuses a place, or the byte at which its area starts.
-#[derive(Clone, Copy)]
-pub enum Located {
-    Refused(u8),
-    At(usize),
-}
-
-// 2 for a register of another length, 3 for a place past its last area.
-pub fn locate(register: &[u8], place: u16) -> Located
+// The byte at which the area of a place starts: 2 for a register of another length, 3 for a place past its last area.
+pub fn locate(register: &[u8], place: u16) -> Result<usize, Refusal>
     ensures { Locates place register.now result }
 {
     if register.len() != Layout::REGISTER_BYTES {
-        return Located::Refused(Number::MISFIT);
+        return Err(Refusal::Misfit);
     }
     if Layout::AREAS <= place {
-        return Located::Refused(Number::NO_METER);
+        return Err(Refusal::NoMeter);
     }
-    Located::At(Layout::AREA_BYTES * (place as usize))
+    Ok(Layout::AREA_BYTES * (place as usize))
 }

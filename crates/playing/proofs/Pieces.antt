@@ -1,16 +1,17 @@
 -- A sheet played piece by piece: a turn takes its line off the text that is left, and what a piece has put goes before the rest.
-use mathlib.Core.Path.{◌≡◌, refl, sym, ap, ◌∙◌}
-use mathlib.Core.Bool.{Bool, false, ◌&&◌}
+use mathlib.Core.Path.{◌≡◌, refl, sym, ap, ◌∙◌, subst}
+use mathlib.Core.Bool.{Bool}
 use mathlib.Core.List.{List, [], ◌∷◌, ◌++◌, append_assoc, append-nil}
 use mathlib.Core.Logic.{◌⊎◌, inl, inr, ⊎_elim}
 use Prim.Native.Nat.{ℕ, zero, suc, ◌+◌, ◌*◌, ◌-◌, ◌≤◌, ◌<◌}
 use native.Mathlib.Nat.{le_refl}
 use native.Mathlib.Omega.{arith}
-use borrow.Author.Tests.{lt-ltb, le-ltb, le-leb, ltb-true, ltb-false}
-use lib.Dec.{ltb, leb}
+use borrow.Author.Tests.{lt-ltb, le-ltb, ltb-true, ltb-false}
+use lib.Dec.{ltb}
 use lib.ListN.{length}
 use Rattle.calls.specs.Play.{exchanges, register_after}
-use Rattle.calls.proofs.Bools.{together, apart, by_test}
+use Rattle.calls.proofs.Bools.{by_test}
+use Rattle.playing.specs.declared.turn.Play.{Play}
 use Rattle.playing.specs.declared.turn.Progress.{Progress}
 use Rattle.sheet.specs.declared.split.Next.{Next}
 use Rattle.sheet.specs.declared.split.Next.TheVariants.{Found, End, Fault}
@@ -19,11 +20,11 @@ use Rattle.lines.specs.Put.{Put}
 use Rattle.lines.specs.Line.{line_most}
 use Rattle.lines.specs.Put.{put_bytes}
 use Rattle.playing.specs.Whole.{fault_line, lines_of, text_from, text_of, printed_most}
-use Rattle.playing.specs.Inner.Turn.{state, Turned}
+use Rattle.playing.specs.Inner.Turn.{Kept, Turned}
 use Rattle.playing.specs.Piece.{rest_from, PlayedFrom, PiecesMakeTheText}
 use Rattle.sheet.proofs.Bodies.{next_within}
 use Rattle.lines.proofs.Pasted.{put_both}
-use Rattle.playing.proofs.Turns.{fault_length, nothing, ended, put_shown}
+use Rattle.playing.proofs.Turns.{fault_length, kept_on, nothing, ended, put_shown, put_length}
 
 -- ---- a sheet has no more entries than bytes: one more turn than bytes are left changes nothing
 module _ (sheet : List ℕ) where
@@ -80,78 +81,77 @@ pub pieces_make_the_text : PiecesMakeTheText
 pieces_make_the_text = record { starts = text_started; ends = λ sheet register at h. text_ended sheet at register h }
 
 -- ---- one piece
-module _ (sheet : List ℕ) (start : ℕ) (register₀ out₀ : List ℕ) where
+module _ (sheet : List ℕ) (start : Play) where
   -- the loop's invariant: what was put and then the text of the rest is the text from the start on
-  pub record Going (register out : List ℕ) (at end : ℕ) : Type 0 where
-    pub same_register : length register ≡ length register₀
-    pub same_out : length out ≡ length out₀
-    pub fits : end ≤ length out
-    pub few : end ≤ printed_most * at
-    pub moved : ((at ≡ start) × (end ≡ 0)) ⊎ (start < at)
+  pub record Going (now : Play) : Type 0 where
+    pub kept : Kept start now
+    pub fits : now.so_far.end ≤ length now.out.now
+    pub few : now.so_far.end ≤ printed_most * now.so_far.at
+    pub moved : (now.so_far ≡ start.so_far) ⊎ (start.so_far.at < now.so_far.at)
     pub text : List ℕ
-    pub put : Put out₀ 0 text out end
-    pub text_is : text_from (rest_from sheet start) register₀ ≡ text ++ text_from (rest_from sheet at) register
-    pub register_is : register_after (rest_from sheet at).calls register ≡ register_after (rest_from sheet start).calls register₀
+    pub put : Put start.out.now 0 text now.out.now now.so_far.end
+    pub text_is : text_from (rest_from sheet start.so_far.at) start.register.now ≡ text ++ text_from (rest_from sheet now.so_far.at) now.register.now
+    pub register_is : register_after (rest_from sheet now.so_far.at).calls now.register.now ≡ register_after (rest_from sheet start.so_far.at).calls start.register.now
 
-  pub set_out : Going register₀ out₀ start 0
+  pub set_out : start.so_far.end ≡ 0 → Going start
   unfolding put_bytes
-  set_out =
+  set_out begins =
       record {
-        same_register = refl;
-        same_out = refl;
-        fits = omega arith;
-        few = omega arith;
-        moved = inl (refl, refl);
+        kept = record { register = refl; out = refl };
+        fits = omega (arith, begins);
+        few = omega (arith, begins);
+        moved = inl refl;
         text = [];
-        put = record { bytes = refl; ends = omega arith };
+        put = record { bytes = refl; ends = omega (arith, begins) };
         text_is = refl;
         register_is = refl;
       }
 
-  module _ {register out : List ℕ} {at end : ℕ} (g : Going register out at end) where
-    moved_on : {next : ℕ} → at < next → start < next
-    moved_on on = ⊎_elim (λ e. omega (arith, e.0)) (λ l. omega arith) g.moved
+  module _ {now : Play} (g : Going now) where
+    moved_on : {next : ℕ} → now.so_far.at < next → start.so_far.at < next
+    moved_on {next} on = ⊎_elim (λ e. let P : Progress → Type 0 = λ p. p.at < next in subst P e on) (λ l. omega arith) g.moved
 
     -- a turn takes its line off what is left
-    module _ {q : Progress} {register' out' : List ℕ} (short : length sheet ≤ sheet_most) (room : line_most ≤ length out - end) (t : Turned sheet at (state register out end) q register' out') (kept_register : length register' ≡ length register) (kept_out : length out' ≡ length out) where
-      rest_on : split_from (length sheet) sheet q.at ≡ rest_from sheet q.at
-      rest_on = all_but_one sheet (length sheet) q.at refl (omega (arith, t.on)) ∙ sym (rest_short sheet q.at short)
+    module _ {next : Play} (short : length sheet ≤ sheet_most) (room : line_most ≤ length now.out.now - now.so_far.end) (kept : Kept now next) (t : Turned sheet now next) where
+      rest_on : split_from (length sheet) sheet next.so_far.at ≡ rest_from sheet next.so_far.at
+      rest_on =
+          all_but_one sheet (length sheet) next.so_far.at refl (omega (arith, t.on)) ∙ sym (rest_short sheet next.so_far.at short)
 
-      text_on : text_from (rest_from sheet at) register ≡ t.line ++ text_from (rest_from sheet q.at) register'
-      text_on = rw (rest_short sheet at short, ← rest_on) (t.text_is (length sheet))
+      text_on : text_from (rest_from sheet now.so_far.at) now.register.now ≡ t.line ++ text_from (rest_from sheet next.so_far.at) next.register.now
+      text_on = rw (rest_short sheet now.so_far.at short, ← rest_on) (t.text_is (length sheet))
 
-      register_on : register_after (rest_from sheet q.at).calls register' ≡ register_after (rest_from sheet at).calls register
-      register_on = rw (rest_short sheet at short, ← rest_on) (t.register_is (length sheet))
+      register_on : register_after (rest_from sheet next.so_far.at).calls next.register.now ≡ register_after (rest_from sheet now.so_far.at).calls now.register.now
+      register_on = rw (rest_short sheet now.so_far.at short, ← rest_on) (t.register_is (length sheet))
 
-      pub gone_on : Going register' out' q.at q.end
+      pub gone_on : Going next
       gone_on =
           record {
-            same_register = kept_register ∙ g.same_register;
-            same_out = kept_out ∙ g.same_out;
-            fits = omega (arith, g.fits, t.put.ends, t.short);
+            kept = kept_on g.kept kept;
+            fits = omega (arith, g.fits, t.put.ends, t.short, put_length t.put);
             few = t.few;
             moved = inr (moved_on t.on);
             text = g.text ++ t.line;
             put = put_both g.put t.put;
-            text_is = g.text_is ∙ ap (λ (l : List ℕ). g.text ++ l) text_on ∙ sym (append_assoc g.text t.line (text_from (rest_from sheet q.at) register'));
+            text_is = g.text_is ∙ ap (λ (l : List ℕ). g.text ++ l) text_on ∙ sym (append_assoc g.text t.line (text_from (rest_from sheet next.so_far.at) next.register.now));
             register_is = register_on ∙ g.register_is;
           }
 
     -- where the loop stops: at the end, or where a line might not fit
-    pub stopped : ltb at (length sheet) && leb line_most (length out - end) ≡ false → PlayedFrom sheet start register₀ out₀ (record { at = at; end = end }) register out
-    stopped h =
-        record {
-          fits = λ room. omega (arith, g.fits, g.same_out);
+    pub stopped : {register out : List ℕ} → register ≡ now.register.now → out ≡ now.out.now → start.so_far.end ≡ 0 → (now.so_far.at < length sheet → line_most ≤ length now.out.now - now.so_far.end → ⊥) → PlayedFrom sheet start.so_far.at start.register.now start.out.now now.so_far register out
+    stopped after written begins stop =
+        rw (after, written)
+        (record {
+          fits = λ room. omega (arith, g.fits, put_length g.put);
           on = λ room more. ⊎_elim (λ e. absurd (goes e more room)) (λ l. l) g.moved;
-          text_is = λ room. rw (put_shown g.put (omega (arith, g.fits, g.same_out))) g.text_is;
+          text_is = λ room. rw (put_shown g.put (omega (arith, g.fits, put_length g.put))) g.text_is;
           register_is = g.register_is;
-        }
+        })
       where
-        goes : (at ≡ start) × (end ≡ 0) → start < length sheet → line_most ≤ length out₀ → ⊥
+        goes : now.so_far ≡ start.so_far → start.so_far.at < length sheet → line_most ≤ length start.out.now → ⊥
         goes e more room =
-            let still : at < length sheet = omega (arith, e.0) in
-            let fit : line_most ≤ length out - end = omega (arith, e.1, g.same_out) in
-            apart (together (lt-ltb _ _ still) (le-leb _ _ fit)) h
+            let still : now.so_far.at < length sheet = rw e more in
+            let fit : line_most ≤ length now.out.now - now.so_far.end = omega (arith, ap (λ (p : Progress). p.end) e, begins, put_length g.put) in
+            stop still fit
 
 -- ---- a position past the end, and an over-long sheet
 module _ {sheet : List ℕ} {start : ℕ} (register : List ℕ) {out : List ℕ} where

@@ -10,6 +10,7 @@ use meter::withdraw::withdraw;
 use submit::submit::submit;
 use submit::trial::trial;
 
+#[tactic(auto, using(calls::proofs::Tried::is_trial_lem))]
 pub fn apply(register: &mut [u8], call: Call) -> Reply
     ensures { done result register.new ≡ step call register.old }
 {
@@ -19,13 +20,13 @@ pub fn apply(register: &mut [u8], call: Call) -> Reply
             profile,
             dials,
             capacity,
-        } => Reply::Answered(enrol(register, place, profile, dials, capacity)),
-        Call::Submit { place, read } => Reply::Answered(submit(register, place, read)),
+        } => Reply::Answered(enrol(register, place, profile, dials, capacity).into()),
+        Call::Submit { place, read } => Reply::Answered(submit(register, place, read).into()),
         Call::Withdraw { place, day, value } => Reply::Answered(withdraw(
             register, place, day, value,
-        )),
-        Call::Report { place } => Reply::Reported(report(register, place)),
-        Call::Fold { place } => Reply::Answered(fold(register, place)),
-        Call::Trial { place, read } => Reply::Answered(trial(register, place, read)),
+        ).into()),
+        Call::Report { place } => Reply::Reported(report(register, place).into()),
+        Call::Fold { place } => Reply::Answered(fold(register, place).into()),
+        Call::Trial { place, read } => Reply::Answered(trial(register, place, read).into()),
     }
 }

@@ -1,11 +1,12 @@
 // A sheet played piece by piece, for a program that has little room for the text.
 ghost use Rattle.playing.specs.Piece.{PlayedFrom, PiecesMakeTheText};
 
-use crate::turn::{Progress, play_next, put_fault};
-use lines::line::LineSize;
-use sheet::size::SheetSize;
+use crate::turn::{Play, Progress, put_fault};
+use lines::line::LINE_MOST;
+use sheet::size::SHEET_MOST;
 
 // Does nothing: its contract is the claim about the pieces.
+#[tactic(auto, using(crate::proofs::Pieces::pieces_make_the_text))]
 pub fn pieces_make_the_text()
     ensures { PiecesMakeTheText }
 {}
@@ -17,18 +18,20 @@ pub fn play_from(sheet: &[u8], register: &mut [u8], out: &mut [u8], start: usize
     if sheet.len() <= start {
         return Progress { at: start, end: 0 };
     }
-    if sheet.len() > SheetSize::MOST_BYTES {
+    if sheet.len() > SHEET_MOST {
         return Progress {
             at: sheet.len(),
             end: put_fault(out, 0),
         };
     }
-    let mut at = start;
-    let mut end = 0;
-    while (at < sheet.len()) & (LineSize::MOST_BYTES <= out.len() - end) {
-        let p = play_next(sheet, register, out, at, end);
-        at = p.at;
-        end = p.end;
+    let mut play = Play {
+        register,
+        out,
+        so_far: Progress { at: start, end: 0 },
+    };
+    // From entry to entry, as in `play`.
+    while play.so_far.at < sheet.len() && LINE_MOST <= play.out.len() - play.so_far.end {
+        play.turn(sheet);
     }
-    Progress { at, end }
+    play.so_far
 }

@@ -22,6 +22,7 @@ fn write_text<W: Write>(sheet: &[u8], output: &mut W) -> io::Result<()>
     let mut register = zero_register();
     let mut text = [0; TEXT_BYTES];
     let mut at = 0;
+    // From piece to piece: no index is counted.
     while at < sheet.len() {
         let p = play_from(sheet, &mut register, &mut text, at);
         output.write_all(&text[..p.end])?;

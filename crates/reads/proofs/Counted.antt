@@ -1,48 +1,43 @@
 -- What was counted of a sound area says where its entries are.
+use Rattle.std.specs.Prelude.{Some, None}
 use mathlib.Core.Path.{◌≡◌, refl, ap, sym, ◌∙◌}
 use mathlib.Core.Bool.{Bool, true, false, cond}
 use mathlib.Core.List.{List, [], ◌∷◌}
 use Prim.Native.Nat.{ℕ, zero, suc, ◌+◌, ◌-◌, ◌≤◌, ◌<◌}
 use native.Mathlib.Omega.{arith}
-use borrow.Author.Tests.{ltb-true, ltb-false, eqb-true, eqb-false}
-use mir.Val.{bool_byte}
-use lib.Dec.{eqb, ltb}
-use lib.ListN.{length, take, drop}
+use lib.ListN.{length}
 use Rattle.terms.specs.declared.entry.Entry.{Entry}
-use Rattle.terms.specs.declared.entry.Slot.TheVariants.{Read, Empty}
 use Rattle.terms.specs.Entry.{is_standing, is_held, those, slot_at}
-use Rattle.register.specs.declared.head.Head.{Head}
 use Rattle.register.specs.Entries.{entry_start, entry_at}
-use Rattle.register.specs.Head.{head_of, head_bytes, most_entries, body_of}
+use Rattle.register.specs.Head.{head_of, most_entries, body_of}
+use Rattle.register.proofs.Body.{body_room, head_room}
 use Rattle.judge.specs.declared.area.Summary.{Summary}
 use Rattle.journal.specs.Journal.{Journal, journal_of, entries_to, standing, kept, held_of, is_there, newest_at, day_of}
 use Rattle.journal.specs.Sound.{are_in_order, are_sound, days_rise}
 use Rattle.judge.specs.Inner.Judged.{counts_of, summary_of, Counted}
-use Rattle.journal.proofs.Bools.{false_is, both}
+use Rattle.journal.proofs.Bools.{both}
 use Rattle.journal.proofs.Entries.{one_more, length_entries, count_at_most}
 use Rattle.journal.proofs.InOrder.{days_rise_lem}
 use Rattle.judge.proofs.Newest.{none_there, newest_entry, kept_all}
 use Rattle.judge.proofs.Verdicts.{head_is, entries_are, journal_is, body_sound}
-use Rattle.reads.specs.Inner.Room.{has_room, slot_in}
-use Rattle.reads.proofs.Lent.{room_is, lent_is}
 
 -- ---- the held read of some entries, by how many are kept
 module _ (a : List ℕ) where
-  none_held : (m k : ℕ) → k ≡ cond (is_there (held_of (entries_to m a))) (length (entries_to m a) - 1) (length (entries_to m a)) → k ≡ m → held_of (entries_to m a) ≡ Empty
+  none_held : (m k : ℕ) → k ≡ cond (is_there (held_of (entries_to m a))) (length (entries_to m a) - 1) (length (entries_to m a)) → k ≡ m → held_of (entries_to m a) ≡ None
   unfolding entries_to held_of is_there
   none_held zero k is all = refl
   none_held (suc n) k is all = cases (is_held (entry_at a (entry_start n))) refl where
-    cases : (b : Bool) → is_held (entry_at a (entry_start n)) ≡ b → held_of (entries_to (suc n) a) ≡ Empty
+    cases : (b : Bool) → is_held (entry_at a (entry_start n)) ≡ b → held_of (entries_to (suc n) a) ≡ None
     cases true h =
         let less : k ≡ suc (length (entries_to n a)) - 1 = rw h at is in
         absurd (omega (arith, length_entries n a))
     cases false h = rw h
 
-  one_held : (m k : ℕ) → k ≡ cond (is_there (held_of (entries_to m a))) (length (entries_to m a) - 1) (length (entries_to m a)) → (k ≡ m → ⊥) → (suc k ≡ m) × (held_of (entries_to m a) ≡ Read (entry_at a (entry_start k)))
+  one_held : (m k : ℕ) → k ≡ cond (is_there (held_of (entries_to m a))) (length (entries_to m a) - 1) (length (entries_to m a)) → (k ≡ m → ⊥) → (suc k ≡ m) × (held_of (entries_to m a) ≡ Some (entry_at a (entry_start k)))
   unfolding entries_to held_of is_there
   one_held zero k is some = absurd (some is)
   one_held (suc n) k is some = cases (is_held (entry_at a (entry_start n))) refl where
-    cases : (b : Bool) → is_held (entry_at a (entry_start n)) ≡ b → (suc k ≡ suc n) × (held_of (entries_to (suc n) a) ≡ Read (entry_at a (entry_start k)))
+    cases : (b : Bool) → is_held (entry_at a (entry_start n)) ≡ b → (suc k ≡ suc n) × (held_of (entries_to (suc n) a) ≡ Some (entry_at a (entry_start k)))
     cases true h =
         let less : k ≡ suc (length (entries_to n a)) - 1 = rw h at is in
         let at : k ≡ n = omega (arith, length_entries n a) in
@@ -61,40 +56,33 @@ module _ (a : List ℕ) where
     cases true e rest = rw (e, length_entries k a) e
     cases false e rest = rw e (rest (rw e at h))
 
-none_comes_before : (es : List Entry) → length (standing es) ≡ 0 → newest_at es ≡ 0
-unfolding those newest_at
-none_comes_before [] h = refl
-none_comes_before (e ∷ es) h = cases (is_standing e) refl (none_comes_before es) where
-  cases : (b : Bool) → is_standing e ≡ b → (length (standing es) ≡ 0 → newest_at es ≡ 0) → newest_at (e ∷ es) ≡ 0
-  cases true s rest = absurd (omega (arith, rw s at h))
-  cases false s rest = rw s (rest (rw s at h))
-
 -- ---- a sound area
 module _ (a : List ℕ) (t : Summary) (is : Counted a t) where
   abbrev body : List ℕ
-  body = drop (head_bytes t.head) a
+  body = body_of a
 
-  head_of_lem : t.head ≡ head_of a
+  pub head_of_lem : t.head ≡ head_of a
   head_of_lem = head_is a t is.sound is.summary
 
   pub in_body : (journal_of a).entries ≡ entries_to t.entries body
-  unfolding body_of
-  in_body = ap (λ (j : Journal). j.entries) (journal_is a t is.sound is.summary) ∙ ap (λ (h : Head). entries_to t.entries (drop (head_bytes h) a)) (sym head_of_lem)
+  in_body = ap (λ (j : Journal). j.entries) (journal_is a t is.sound is.summary)
 
   in_order : are_in_order t.head (entries_to t.entries body) ≡ true
-  unfolding are_sound body_of
-  in_order =
-      (both
-      (are_in_order t.head (entries_to t.entries body))
-      _
-      (ap (λ (h : Head). are_sound t.head (entries_to t.entries (drop (head_bytes h) a))) head_of_lem ∙ body_sound a t is.sound is.summary)
-      ).0
+  unfolding are_sound
+  in_order = (both (are_in_order t.head (entries_to t.entries body)) _ (body_sound a t is.sound is.summary)).0
 
   pub rises : days_rise (standing (journal_of a).entries) ≡ true
   rises = rw in_body (days_rise_lem t.head (entries_to t.entries body) in_order)
 
   few : t.entries ≤ most_entries t.head
   few = rw (head_of_lem, entries_are a t is.sound is.summary) (count_at_most a)
+
+  -- all of them are there, and no more of them than a byte counts
+  pub room : entry_start t.entries ≤ length body
+  room = omega (arith, rw (← head_of_lem) at (body_room a is.long), few)
+
+  pub few_entries : t.entries < 256
+  few_entries = omega (arith, few, head_room t.head)
 
   -- what was counted
   pub day_is : t.day ≡ day_of (slot_at (standing (journal_of a).entries) 0)
@@ -127,49 +115,28 @@ module _ (a : List ℕ) (t : Summary) (is : Counted a t) where
     newest_of : (t.counts.newest < t.entries) × (standing (entries_to t.entries body) ≡ entry_at body (entry_start t.counts.newest) ∷ standing (entries_to t.counts.newest body))
     newest_of = rw newest_of_all (newest_entry body t.entries (λ z. some (stand_of_all ∙ z)))
 
-    pub newest_room : has_room a t.head (suc t.counts.newest) ≡ true
-    newest_room = room_is a t.head (suc t.counts.newest) is.long (omega (arith, few, newest_of.0))
+    pub newest_below : t.counts.newest < t.entries
+    newest_below = newest_of.0
 
-    last_stands : standing (journal_of a).entries ≡ entry_at body (entry_start t.counts.newest) ∷ standing (entries_to t.counts.newest body)
+    pub last_stands : standing (journal_of a).entries ≡ entry_at body (entry_start t.counts.newest) ∷ standing (entries_to t.counts.newest body)
     last_stands = rw in_body newest_of.1
 
-    -- the same of what is lent
-    pub lent_last : {start : ℕ} → start ≡ head_bytes t.head → standing (journal_of a).entries ≡ entry_at (take (length a - start) (drop start a)) (entry_start t.counts.newest) ∷ standing (entries_to t.counts.newest (take (length a - start) (drop start a)))
-    lent_last starts = rw (lent_is a t.head starts) last_stands
-
-    pub newest_in : slot_in a t.head t.counts.newest ≡ slot_at (standing (journal_of a).entries) 0
-    unfolding slot_in slot_at
-    newest_in = rw (newest_room, last_stands)
-
-  -- ---- all that stand, by the entries up to the last one
-  pub no_room : has_room a t.head (suc t.counts.newest) ≡ false → standing (journal_of a).entries ≡ []
-  no_room h = cases (eqb t.counts.standing 0) refl where
-    cases : (b : Bool) → eqb t.counts.standing 0 ≡ b → standing (journal_of a).entries ≡ []
-    cases true z = none_stand (eqb-true _ _ z)
-    cases false z = false_is (sym h ∙ newest_room (eqb-false _ _ z))
-
-  to_newest : (b : Bool) → ltb 0 t.counts.standing ≡ b → standing (entries_to (t.counts.newest + bool_byte b) body) ≡ standing (journal_of a).entries
-  unfolding entries_to those
-  to_newest true h =
-      let some : t.counts.standing ≡ 0 → ⊥ = λ z. omega (arith, ltb-true 0 t.counts.standing h) in
-      let stands = rw (← newest_of_all) at (newest_stands body t.entries (λ z. some (stand_of_all ∙ z))) in
-      rw (one_more, stands) (sym (last_stands some))
-  to_newest false h =
-      let none : t.counts.standing ≡ 0 = omega (arith, ltb-false 0 t.counts.standing h) in
-      rw (newest_of_all, none_comes_before (entries_to t.entries body) (sym stand_of_all ∙ none), none_stand none)
-
-  pub lent_all : {start : ℕ} → start ≡ head_bytes t.head → standing (entries_to (t.counts.newest + bool_byte (ltb 0 t.counts.standing)) (take (length a - start) (drop start a))) ≡ standing (journal_of a).entries
-  lent_all starts = rw (lent_is a t.head starts) (to_newest (ltb 0 t.counts.standing) refl)
+    -- all that stand are among the entries up to the last one
+    pub to_newest : standing (entries_to (t.counts.newest + 1) body) ≡ standing (journal_of a).entries
+    unfolding entries_to those
+    to_newest =
+        let stands = rw (← newest_of_all) at (newest_stands body t.entries (λ z. some (stand_of_all ∙ z))) in
+        rw (one_more, stands) (sym last_stands)
 
   -- ---- the held read
   keeps : t.counts.kept ≡ cond (is_there (held_of (entries_to t.entries body))) (length (entries_to t.entries body) - 1) (length (entries_to t.entries body))
   keeps = kept_is ∙ ap (λ (es : List Entry). kept es) in_body ∙ kept_all t.head (entries_to t.entries body) in_order
 
-  pub held_none : t.counts.kept ≡ t.entries → Empty ≡ held_of (journal_of a).entries
+  pub held_none : t.counts.kept ≡ t.entries → None ≡ held_of (journal_of a).entries
   held_none h = sym (rw in_body (none_held body t.entries t.counts.kept keeps h))
 
-  pub held_in : (t.counts.kept ≡ t.entries → ⊥) → slot_in a t.head t.counts.kept ≡ held_of (journal_of a).entries
-  unfolding slot_in
-  held_in h =
-      let one = one_held body t.entries t.counts.kept keeps h in
-      rw (in_body, one.1, room_is a t.head (suc t.counts.kept) is.long (omega (arith, few, one.0)))
+  pub held_below : (t.counts.kept ≡ t.entries → ⊥) → t.counts.kept < t.entries
+  held_below h = omega (arith, (one_held body t.entries t.counts.kept keeps h).0)
+
+  pub held_in : (t.counts.kept ≡ t.entries → ⊥) → Some (entry_at body (entry_start t.counts.kept)) ≡ held_of (journal_of a).entries
+  held_in h = rw in_body (sym (one_held body t.entries t.counts.kept keeps h).1)

@@ -1,4 +1,5 @@
 -- The read that stands on a day.
+use Rattle.std.specs.Prelude.{Option, Some, None}
 use mathlib.Core.Path.{◌≡◌, refl, ap, ◌∙◌}
 use mathlib.Core.Bool.{Bool, true, false, ◌&&◌, ◌||◌}
 use mathlib.Core.List.{List, [], ◌∷◌}
@@ -8,8 +9,6 @@ use borrow.Author.Tests.{ltb-true, eqb-true, ne_eqb}
 use lib.Dec.{eqb}
 use lib.ListN.{length}
 use Rattle.terms.specs.declared.entry.Entry.{Entry}
-use Rattle.terms.specs.declared.entry.Slot.{Slot}
-use Rattle.terms.specs.declared.entry.Slot.TheVariants.{Read, Empty}
 use Rattle.terms.specs.Entry.{slot_at}
 use Rattle.journal.specs.Journal.{slot_if, on_day, day_of}
 use Rattle.journal.specs.Sound.{any, has_read, days_rise, is_later}
@@ -23,7 +22,7 @@ rise_before s [] r = refl
 rise_before s (t ∷ ss) r = (both (is_later s t) (days_rise (t ∷ ss)) r).1
 
 -- ---- a day after the last one
-pub none_on : (day : ℕ) (ss : List Entry) → days_rise ss ≡ true → day_of (slot_at ss 0) < day → on_day day ss ≡ Empty
+pub none_on : (day : ℕ) (ss : List Entry) → days_rise ss ≡ true → day_of (slot_at ss 0) < day → on_day day ss ≡ None
 unfolding on_day days_rise day_of slot_at
 none_on day [] r l = refl
 none_on day (s ∷ []) r l =
@@ -45,16 +44,16 @@ none_before day value s (t ∷ ss) r e =
     none_stands day value (t ∷ ss) c.1 (omega arith)
 
 -- ---- one read alone has none before it
-pub one_alone : (ss : List Entry) → length ss < 2 → slot_at ss 1 ≡ Empty
+pub one_alone : (ss : List Entry) → length ss < 2 → slot_at ss 1 ≡ None
 unfolding slot_at
 one_alone [] l = refl
 one_alone (s ∷ []) l = refl
 one_alone (s ∷ t ∷ ss) l = absurd (omega arith)
 
 -- ---- a day and a value
-abbrev has_value : ℕ → Slot → Bool
-has_value value (Read s) = eqb s.value value
-has_value value Empty = false
+abbrev has_value : ℕ → Option Entry → Bool
+has_value value (Some s) = eqb s.value value
+has_value value None = false
 
 module _ (day value : ℕ) where
   value_on : (ss : List Entry) → days_rise ss ≡ true → has_value value (on_day day ss) ≡ any (has_read day value) ss
@@ -65,8 +64,8 @@ module _ (day value : ℕ) where
     cases true h rest = rw (h, none_before day value s ss r (eqb-true s.day day h), or_none)
     cases false h rest = rw h rest
 
-  pub read_on_day : (ss : List Entry) {s : Entry} → days_rise ss ≡ true → Read s ≡ on_day day ss → eqb s.value value ≡ any (has_read day value) ss
+  pub read_on_day : (ss : List Entry) {s : Entry} → days_rise ss ≡ true → Some s ≡ on_day day ss → eqb s.value value ≡ any (has_read day value) ss
   read_on_day ss r h = ap (has_value value) h ∙ value_on ss r
 
-  pub none_on_day : (ss : List Entry) → days_rise ss ≡ true → Empty ≡ on_day day ss → false ≡ any (has_read day value) ss
+  pub none_on_day : (ss : List Entry) → days_rise ss ≡ true → None ≡ on_day day ss → false ≡ any (has_read day value) ss
   none_on_day ss r h = ap (has_value value) h ∙ value_on ss r

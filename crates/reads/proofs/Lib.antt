@@ -1,4 +1,3 @@
-pub mod Lent
 pub mod Days
 pub mod Searched
 pub mod Counted

@@ -1,15 +1,14 @@
 -- Standing days rise, so the search that ends early finds what is there, and compares as many days as are said.
+use Rattle.std.specs.Prelude.{None}
 use mathlib.Core.Path.{◌≡◌, refl, ap, sym, ◌∙◌}
 use mathlib.Core.Bool.{Bool, true, false, cond}
 use mathlib.Core.List.{List, [], ◌∷◌}
 use Prim.Native.Nat.{ℕ, suc, ◌+◌, ◌≤◌, ◌<◌}
 use native.Mathlib.Omega.{arith}
 use borrow.Author.Tests.{ltb-true, leb-true, leb-false, lt-ltb, le-ltb, le-leb, lt-leb, ne_eqb, eqb-false}
-use mir.Val.{bool_byte}
-use lib.Dec.{eqb, leb, ltb}
+use lib.Dec.{eqb, leb}
 use lib.ListN.{length}
 use Rattle.terms.specs.declared.entry.Entry.{Entry}
-use Rattle.terms.specs.declared.entry.Slot.TheVariants.{Empty}
 use Rattle.terms.specs.Entry.{is_standing, those, slot_at}
 use Rattle.register.specs.Entries.{entry_start, entry_at}
 use Rattle.journal.specs.Journal.{entries_to, standing, slot_if, on_day, day_of}
@@ -40,10 +39,10 @@ unfolding days_compared those any is_later_than is_not_later
 one_more_compared day s ss h = rw (h, lt-ltb day s.day (leb-false s.day day h)) (omega arith)
 
 -- the find where the first day is not later
-found_first : (day : ℕ) (s : Entry) (ss : List Entry) → days_rise (s ∷ ss) ≡ true → s.day ≤ day → slot_if (eqb s.day day) s Empty ≡ on_day day (s ∷ ss)
+found_first : (day : ℕ) (s : Entry) (ss : List Entry) → days_rise (s ∷ ss) ≡ true → s.day ≤ day → slot_if (eqb s.day day) s None ≡ on_day day (s ∷ ss)
 unfolding on_day day_of slot_at
 found_first day s ss r l = cases (eqb s.day day) refl where
-  cases : (b : Bool) → eqb s.day day ≡ b → slot_if (eqb s.day day) s Empty ≡ slot_if (eqb s.day day) s (on_day day ss)
+  cases : (b : Bool) → eqb s.day day ≡ b → slot_if (eqb s.day day) s None ≡ slot_if (eqb s.day day) s (on_day day ss)
   cases true h = rw h
   cases false h =
       let other = eqb-false s.day day h in
@@ -61,7 +60,7 @@ module _ (day : ℕ) where
 
   search_after : (compared : ℕ) (ss : List Entry) → days_rise ss ≡ true → search_from day compared ss ≡ answer compared ss
   unfolding search_from not_found ends_at on_day days_compared those any
-  search_after compared [] r = ap (λ (k : ℕ). record { found = Empty; compared = k }) (omega arith)
+  search_after compared [] r = ap (λ (k : ℕ). record { found = None; compared = k }) (omega arith)
   search_after compared (s ∷ ss) r = cases (leb s.day day) refl (search_after (compared + 1) ss (rise_before s ss r)) where
     cases : (b : Bool) → leb s.day day ≡ b → search_from day (compared + 1) ss ≡ answer (compared + 1) ss → cond (leb s.day day) (ends_at day compared s) (search_from day (compared + 1) ss) ≡ answer compared (s ∷ ss)
     cases true h rest =
@@ -80,12 +79,12 @@ module _ (day : ℕ) where
   unfolding not_found search_answer on_day days_compared those any
   none_standing ss none = rw none
 
-  pub newest_earlier : (ss : List Entry) {n : ℕ} → n ≡ length ss → days_rise ss ≡ true → day_of (slot_at ss 0) < day → not_found (bool_byte (ltb 0 n)) ≡ search_answer day ss
+  pub newest_earlier : (ss : List Entry) → (length ss ≡ 0 → ⊥) → days_rise ss ≡ true → day_of (slot_at ss 0) < day → not_found 1 ≡ search_answer day ss
   unfolding search_from not_found ends_at day_of slot_at
-  newest_earlier [] is r l = rw is (none_standing [] refl)
-  newest_earlier (s ∷ ss) {n} is r l =
+  newest_earlier [] some r l = absurd (some refl)
+  newest_earlier (s ∷ ss) some r l =
       let other : s.day ≡ day → ⊥ = λ e. omega arith in
-      rw (lt-ltb 0 n (omega (arith, is)), ← search_right (s ∷ ss) r, le-leb s.day day (omega arith), ne_eqb s.day day other)
+      rw (← search_right (s ∷ ss) r, le-leb s.day day (omega arith), ne_eqb s.day day other)
 
 -- ---- one entry of a body, from the newest back
 module _ (a : List ℕ) (day compared : ℕ) {m k : ℕ} (one : m ≡ suc k) where

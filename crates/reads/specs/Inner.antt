@@ -1,3 +1,2 @@
--- What only proofs and inner contracts need: which entries can be read at all.
-pub mod Room
+-- What only proofs and inner contracts need: which entries a step back takes off.
 pub mod Back

@@ -1,8 +1,7 @@
 -- 02, 3: "The search for a standing read of the submitted day". Lists are of standing reads, the newest first: those of a journal are
 -- `standing` of its entries, so withdrawn and held ones are passed over, and not compared.
-use Rattle.std.specs.Prelude.{◌≡◌, Bool, true, cond, List, [], ◌∷◌, ℕ, ◌+◌, eqb, leb, ltb, length}
+use Rattle.std.specs.Prelude.{◌≡◌, Bool, true, cond, List, [], ◌∷◌, ℕ, ◌+◌, eqb, leb, ltb, length, None}
 use Rattle.terms.specs.declared.entry.Entry.{Entry}
-use Rattle.terms.specs.declared.entry.Slot.TheVariants.{Empty}
 use Rattle.terms.specs.Entry.{those}
 use Rattle.journal.specs.Journal.{slot_if, on_day}
 use Rattle.journal.specs.Sound.{any, days_rise}
@@ -10,11 +9,11 @@ use Rattle.reads.specs.declared.search.Search.{Search}
 
 -- ---- the way it goes, with how many days were compared before
 unfoldable pub not_found : ℕ → Search
-not_found compared = record { found = Empty; compared = compared }
+not_found compared = record { found = None; compared = compared }
 
 -- a standing read that is not later ends it: the read of that day is found, and of a smaller day none
 unfoldable pub ends_at : ℕ → ℕ → Entry → Search
-ends_at day compared s = record { found = slot_if (eqb s.day day) s Empty; compared = compared + 1 }
+ends_at day compared s = record { found = slot_if (eqb s.day day) s None; compared = compared + 1 }
 
 -- "goes from the newest back and ends at that day or as soon as a standing day is smaller"
 unfoldable pub search_from : ℕ → ℕ → List Entry → Search

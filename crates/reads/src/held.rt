@@ -1,19 +1,18 @@
 // The held read.
 ghost use Rattle.std.specs.Prelude.{◌≡◌};
 ghost use Rattle.journal.specs.Journal.{journal_of, held_of};
-ghost use Rattle.judge.specs.Inner.Judged.{Counted};
 
-use crate::room::entry_in;
-use judge::area::Summary;
-use terms::entry::Slot;
+use crate::entries::entry_in;
+use judge::sound::Sound;
+use terms::entry::Entry;
 
 // All entries but a held one are kept, and a held one is the last.
-pub fn held(area: &[u8], t: Summary) -> Slot
-    ensures { Counted area.now t → result ≡ held_of (journal_of area.now).entries }
+pub fn held(journal: &Sound) -> Option<Entry>
+    ensures { result ≡ held_of (journal_of journal.now.area.now).entries }
 {
-    let counts = t.counts;
-    if counts.kept == t.entries {
-        return Slot::Empty;
+    let kept = journal.summary.counts.kept;
+    if kept == journal.summary.entries {
+        return None;
     }
-    entry_in(area, t.head, counts.kept)
+    Some(entry_in(journal, kept))
 }

@@ -4,41 +4,35 @@ ghost use Rattle.terms.specs.Entry.{slot_at, recent_of};
 ghost use Rattle.register.specs.Entries.{entry_start, entry_at};
 ghost use Rattle.journal.specs.Journal.{journal_of, entries_to, standing};
 ghost use Rattle.reads.specs.Inner.Back.{EndsStanding};
-ghost use Rattle.judge.specs.Inner.Judged.{Counted};
 
-use crate::read::entry_at;
-use crate::room::{entry_in, has_entry};
-use judge::area::Summary;
+use crate::entries::{body_of, entry_at, entry_in};
+use judge::sound::Sound;
 use register::area::Layout;
-use register::head::head_bytes;
-use terms::entry::{Kind, Recent, Slot};
+use terms::entry::{Entry, Kind, Recent};
 
 // How many of the first m entries are left when those after the last standing one are taken off.
 fn back(body: &[u8], m: u8) -> u8
     requires { entry_start m ≤ length body.now }
     ensures { EndsStanding body.now m result }
 {
-    let mut k = m;
-    while 0 < k {
-        let at = Layout::ENTRY_BYTES * ((k - 1) as usize);
-        if body[at] == Kind::STANDING {
-            return k;
+    for k in (0..m).rev() {
+        if body[Layout::ENTRY_BYTES * (k as usize)] == Kind::Standing as u8 {
+            return k + 1;
         }
-        k -= 1;
     }
-    k
+    0
 }
 
 // The last standing one of the first m entries.
-fn last_over(body: &[u8], m: u8) -> Slot
+fn last_over(body: &[u8], m: u8) -> Option<Entry>
     requires { entry_start m ≤ length body.now }
     ensures { result ≡ slot_at (standing (entries_to m body.now)) 0 }
 {
     let b = back(body, m);
     if b == 0 {
-        return Slot::Empty;
+        return None;
     }
-    Slot::Read(entry_at(body, b - 1))
+    Some(entry_at(body, b - 1))
 }
 
 // The last standing read is the entry after `newest` others.
@@ -46,61 +40,50 @@ fn recent_over(body: &[u8], newest: u8) -> Recent
     requires { entry_start (newest + 1) ≤ length body.now }
     ensures { result ≡ recent_of (entry_at body.now (entry_start newest) ∷ standing (entries_to newest body.now)) }
 {
-    let last = Slot::Read(entry_at(body, newest));
+    let last = Some(entry_at(body, newest));
     let b = back(body, newest);
     if b == 0 {
         return Recent {
             last,
-            second: Slot::Empty,
-            third: Slot::Empty,
+            ..Recent::NONE
         };
     }
-    let second = Slot::Read(entry_at(body, b - 1));
-    let third = last_over(body, b - 1);
     Recent {
         last,
-        second,
-        third,
+        second: Some(entry_at(body, b - 1)),
+        third: last_over(body, b - 1),
     }
 }
 
 // The last three standing reads.
-pub fn recent(area: &[u8], t: Summary) -> Recent
-    ensures { Counted area.now t → result ≡ recent_of (standing (journal_of area.now).entries) }
+pub fn recent(journal: &Sound) -> Recent
+    ensures { result ≡ recent_of (standing (journal_of journal.now.area.now).entries) }
 {
-    let head = t.head;
-    let counts = t.counts;
-    if (counts.standing == 0) | !has_entry(area, head, counts.newest) {
-        return Recent {
-            last: Slot::Empty,
-            second: Slot::Empty,
-            third: Slot::Empty,
-        };
+    let counts = journal.summary.counts;
+    if counts.standing == 0 {
+        return Recent::NONE;
     }
-    let start = head_bytes(head);
-    recent_over(&area[start..], counts.newest)
+    recent_over(body_of(journal), counts.newest)
 }
 
 // The last standing read.
-pub fn last(area: &[u8], t: Summary) -> Slot
-    ensures { Counted area.now t → result ≡ slot_at (standing (journal_of area.now).entries) 0 }
+pub fn last(journal: &Sound) -> Option<Entry>
+    ensures { result ≡ slot_at (standing (journal_of journal.now.area.now).entries) 0 }
 {
-    let counts = t.counts;
+    let counts = journal.summary.counts;
     if counts.standing == 0 {
-        return Slot::Empty;
+        return None;
     }
-    entry_in(area, t.head, counts.newest)
+    Some(entry_in(journal, counts.newest))
 }
 
 // The second last standing read. There is none where one read stands alone.
-pub fn second(area: &[u8], t: Summary) -> Slot
-    ensures { Counted area.now t → result ≡ slot_at (standing (journal_of area.now).entries) 1 }
+pub fn second(journal: &Sound) -> Option<Entry>
+    ensures { result ≡ slot_at (standing (journal_of journal.now.area.now).entries) 1 }
 {
-    let head = t.head;
-    let counts = t.counts;
-    if (counts.standing < 2) | !has_entry(area, head, counts.newest) {
-        return Slot::Empty;
+    let counts = journal.summary.counts;
+    if counts.standing < 2 {
+        return None;
     }
-    let start = head_bytes(head);
-    last_over(&area[start..], counts.newest)
+    last_over(body_of(journal), counts.newest)
 }

@@ -2,18 +2,16 @@
 ghost use Rattle.std.specs.Prelude.{◌≡◌, ◌≤◌, ◌<◌, length};
 ghost use Rattle.register.specs.Entries.{entry_start};
 ghost use Rattle.journal.specs.Journal.{journal_of, entries_to, standing};
-ghost use Rattle.judge.specs.Inner.Judged.{Counted};
 ghost use Rattle.reads.specs.Search.{not_found, ends_at, search_from, search_answer};
 
-use crate::read::entry_at;
-use crate::room::has_entry;
-use judge::area::Summary;
-use register::head::head_bytes;
-use terms::entry::{Entry, Kind, Slot};
+use crate::entries::{body_of, entry_at};
+use journal::order::is_standing;
+use judge::sound::Sound;
+use terms::entry::Entry;
 
 #[derive(Clone, Copy)]
 pub struct Search {
-    pub found: Slot,
+    pub found: Option<Entry>,
     // How many standing days were compared with the one that is asked for.
     pub compared: u8,
 }
@@ -23,7 +21,7 @@ fn not_found(compared: u8) -> Search
     ensures { result ≡ not_found compared }
 {
     Search {
-        found: Slot::Empty,
+        found: None,
         compared,
     }
 }
@@ -36,7 +34,7 @@ fn end_at(e: Entry, day: u16, later: u8) -> Search
     let compared = later + 1;
     if e.day == day {
         return Search {
-            found: Slot::Read(e),
+            found: Some(e),
             compared,
         };
     }
@@ -50,38 +48,28 @@ fn search_back(body: &[u8], m: u8, day: u16) -> Search
     ensures { result ≡ search_from day 0 (standing (entries_to m body.now)) }
 {
     let mut later: u8 = 0;
-    let mut k = m;
-    while 0 < k {
-        let newest = k - 1;
-        let e = entry_at(body, newest);
-        if e.kind == Kind::STANDING {
+    for k in (0..m).rev() {
+        let e = entry_at(body, k);
+        if is_standing(e) {
             if e.day <= day {
                 return end_at(e, day, later);
             }
             later += 1;
         }
-        k -= 1;
     }
     not_found(later)
 }
 
-// The search begins at the newest standing read. Its day is known, so a day after it is compared with that one and needs no entry. Where none
-// stands `newest` is 0, no entry is searched and nothing is compared.
-pub fn search_day(area: &[u8], t: Summary, day: u16) -> Search
-    ensures { Counted area.now t → result ≡ search_answer day (standing (journal_of area.now).entries) }
+// The search begins at the newest standing read. Its day is known, so a day after it is compared with that one and needs no entry.
+pub fn search_day(journal: &Sound, day: u16) -> Search
+    ensures { result ≡ search_answer day (standing (journal_of journal.now.area.now).entries) }
 {
-    let head = t.head;
-    let counts = t.counts;
-    if t.day < day {
-        return not_found((0 < counts.standing) as u8);
-    }
-    if !has_entry(area, head, counts.newest) {
+    let counts = journal.summary.counts;
+    if counts.standing == 0 {
         return not_found(0);
     }
-    let start = head_bytes(head);
-    search_back(
-        &area[start..],
-        counts.newest + ((0 < counts.standing) as u8),
-        day,
-    )
+    if journal.summary.day < day {
+        return not_found(1);
+    }
+    search_back(body_of(journal), counts.newest + 1, day)
 }

@@ -27,20 +27,17 @@ pub struct Head {
     pub carry: Carry,
 }
 
-#[derive(Clone, Copy)]
-pub struct HeadSize;
+pub const METER_BYTES: usize = 6;
 
-impl HeadSize {
-    pub const METER_BYTES: usize = 6;
+pub const CARRY_BYTES: usize = 9;
 
-    pub const CARRY_BYTES: usize = 9;
+// The most entries after a head, without a carry and with one.
+pub const MAX_ENTRIES: u8 = 50;
 
-    pub const MAX_ENTRIES: u8 = 50;
-
-    pub const MAX_ENTRIES_CARRIED: u8 = 49;
-}
+pub const MAX_ENTRIES_CARRIED: u8 = 49;
 
 // The carry of a meter that has none.
+#[tactic(auto, unfolding(crate::specs::Head::no_carry))]
 pub fn no_carry() -> Carry
     ensures { result ≡ no_carry }
 {
@@ -52,16 +49,18 @@ pub fn no_carry() -> Carry
 }
 
 // How long a head is: the entries start there.
+#[tactic(auto, unfolding(crate::specs::Head::head_bytes))]
 pub fn head_bytes(head: Head) -> usize
     ensures { result ≡ head_bytes head }
 {
     if head.carried {
-        return HeadSize::METER_BYTES + HeadSize::CARRY_BYTES;
+        return METER_BYTES + CARRY_BYTES;
     }
-    HeadSize::METER_BYTES
+    METER_BYTES
 }
 
 // The byte of an area at which the entry after k others starts.
+#[tactic(auto, using(crate::proofs::Body::head_small), unfolding(crate::specs::Head::offset_after))]
 pub fn offset_after(head: Head, k: u8) -> u16
     ensures { result ≡ offset_after head k }
 {
@@ -70,11 +69,12 @@ pub fn offset_after(head: Head, k: u8) -> u16
 }
 
 // The most entries that may follow a head.
+#[tactic(auto, unfolding(crate::specs::Head::most_entries))]
 pub fn most_entries(head: Head) -> u8
     ensures { result ≡ most_entries head }
 {
     if head.carried {
-        return HeadSize::MAX_ENTRIES_CARRIED;
+        return MAX_ENTRIES_CARRIED;
     }
-    HeadSize::MAX_ENTRIES
+    MAX_ENTRIES
 }

@@ -6,40 +6,41 @@ ghost use Rattle.register.specs.Entries.{entry_start, entry_at};
 ghost use Rattle.register.specs.Head.{meter_bytes, is_carry_at, carry_at, no_carry, head_of};
 
 use crate::area::Layout;
-use crate::head::{Carry, Head, HeadSize, no_carry};
+use crate::head::{Carry, Head, METER_BYTES, no_carry};
 use terms::entry::{Entry, Kind};
 use terms::profile::profile_of;
 
 pub fn byte_at(bytes: &[u8], i: usize) -> u8
     ensures { result ≡ byte_at bytes.now i }
 {
-    if i < bytes.len() {
-        return bytes[i];
-    }
-    0
+    bytes.get(i).copied().unwrap_or(0)
 }
 
 // Two bytes, low byte first. The narrow index keeps the next one from running over.
+#[tactic(auto, unfolding(crate::specs::Bytes::word_at))]
 pub fn word_at(bytes: &[u8], i: u16) -> u16
     ensures { result ≡ word_at bytes.now i }
 {
     let at = i as usize;
-    let low = byte_at(bytes, at) as u16;
-    let high = byte_at(bytes, at + 1) as u16;
-    low + 256 * high
+    u16::from_le_bytes([byte_at(bytes, at), byte_at(bytes, at + 1)])
 }
 
 // Four bytes.
+#[tactic(auto, unfolding(crate::specs::Bytes::word_at, crate::specs::Bytes::long_at))]
 pub fn long_at(bytes: &[u8], i: u8) -> u32
     ensures { result ≡ long_at bytes.now i }
 {
-    let at = i as u16;
-    let low = word_at(bytes, at) as u32;
-    let high = word_at(bytes, at + 2) as u32;
-    low + 65536 * high
+    let at = i as usize;
+    u32::from_le_bytes([
+        byte_at(bytes, at),
+        byte_at(bytes, at + 1),
+        byte_at(bytes, at + 2),
+        byte_at(bytes, at + 3),
+    ])
 }
 
 // The entry that some bytes begin with.
+#[tactic(auto, unfolding(crate::specs::Entries::entry_at))]
 pub fn entry_of(bytes: &[u8]) -> Entry
     ensures { result ≡ entry_at bytes.now 0 }
 {
@@ -53,36 +54,26 @@ pub fn entry_of(bytes: &[u8]) -> Entry
     }
 }
 
-// The entry at a byte where the bytes may end: what is past their end is zero.
-fn cut_entry(bytes: &[u8], at: usize) -> Entry
-    ensures { result ≡ entry_at bytes.now at }
-{
-    if bytes.len() < at {
-        return entry_of(&bytes[0..0]);
-    }
-    entry_of(&bytes[at..])
-}
-
-// The entry after k others. One that is there whole is lent as a part of ten bytes.
+// The entry after k others. One that is there whole is lent as a part of ten bytes; one that the body's end cuts off ends in zeros.
 pub fn entry_after(body: &[u8], k: u8) -> Entry
     ensures { result ≡ entry_at body.now (entry_start k) }
 {
     let at = Layout::ENTRY_BYTES * (k as usize);
-    let end = at + Layout::ENTRY_BYTES;
-    if body.len() < end {
-        return cut_entry(body, at);
+    match body.get(at..at + Layout::ENTRY_BYTES) {
+        Some(entry) => entry_of(entry),
+        None => entry_of(body.get(at..).unwrap_or(&[])),
     }
-    entry_of(&body[at..end])
 }
 
 // The carry of an area, and none where the byte after the meter's entry says so.
+#[tactic(auto, unfolding(crate::specs::Head::is_carry_at, crate::specs::Head::carry_at))]
 fn carry_of(area: &[u8]) -> Carry
     ensures { result ≡ cond (is_carry_at area.now meter_bytes) (carry_at area.now meter_bytes) no_carry }
 {
-    if byte_at(area, HeadSize::METER_BYTES) != Kind::CARRY {
+    if byte_at(area, METER_BYTES) != Kind::Carry as u8 {
         return no_carry();
     }
-    let at = HeadSize::METER_BYTES as u8;
+    let at = METER_BYTES as u8;
     let first = long_at(area, at + 1);
     let folded = word_at(area, at as u16 + 5);
     let flagged = word_at(area, at as u16 + 7);
@@ -94,6 +85,7 @@ fn carry_of(area: &[u8]) -> Carry
 }
 
 // The head of an area.
+#[tactic(auto, unfolding(crate::specs::Head::head_of, crate::specs::Head::is_carry_at))]
 pub fn head_of(area: &[u8]) -> Head
     ensures { result ≡ head_of area.now }
 {
@@ -101,12 +93,12 @@ pub fn head_of(area: &[u8]) -> Head
     let dials = byte_at(area, 1);
     let capacity = long_at(area, 2);
     let carry = carry_of(area);
-    let after = byte_at(area, HeadSize::METER_BYTES);
+    let after = byte_at(area, METER_BYTES);
     Head {
         profile,
         dials,
         capacity,
-        carried: after == Kind::CARRY,
+        carried: after == Kind::Carry as u8,
         carry,
     }
 }

@@ -1,4 +1,5 @@
 -- The volume's number: that of the threshold where it is not 0, and else that of the capacity; and of which reads it is a query.
+use Rattle.std.specs.Prelude.{Option, Some, None}
 use mathlib.Core.Path.{◌≡◌, refl}
 use mathlib.Core.Bool.{Bool, true, false, not, cond, ◌&&◌, ◌||◌, and-eq-true_iff}
 use mathlib.Core.List.{[], ◌∷◌}
@@ -10,8 +11,6 @@ use lib.IntN.{ℤ, pos}
 use lib.Signed.{lt_z}
 use Rattle.arithmetic.specs.Advance.{advance_of}
 use Rattle.terms.specs.declared.entry.Entry.{Entry}
-use Rattle.terms.specs.declared.entry.Slot.{Slot}
-use Rattle.terms.specs.declared.entry.Slot.TheVariants.{Read, Empty}
 use Rattle.terms.specs.declared.entry.Recent.{Recent}
 use Rattle.terms.specs.declared.submission.Submission.{Submission}
 use Rattle.terms.specs.Letter.{is_unchecked}
@@ -37,25 +36,28 @@ module _ (n : ℕ) (s : Submission) (flag : ℕ) (recent : Recent) where
   unfolding volume_number is_low_volume is_high_volume
   threshold_first capacity = by_case (compared_in n s flag recent) (is_over_capacity n capacity s flag recent)
 
-  pub none_stands : (capacity : ℕ) → recent.last ≡ Empty → volume_number n capacity s flag recent ≡ accepted
+  pub none_stands : (capacity : ℕ) → recent.last ≡ None → volume_number n capacity s flag recent ≡ accepted
   unfolding compared compared_number is_within_capacity is_over_capacity
   none_stands capacity h = rw (threshold_first, h, and_false)
 
   -- the tests of an advance a over the last read
-  module _ {r0 : Entry} {a : ℤ} (h : recent.last ≡ Read r0) (e : a ≡ advance_of n s.value flag r0.value) where
-    pub threshold_over : compared n a s (Read r0) recent.second ≡ compared_in n s flag recent
+  module _ {r0 : Entry} {a : ℤ} (h : recent.last ≡ Some r0) (e : a ≡ advance_of n s.value flag r0.value) where
+    pub threshold_over : compared n a s (Some r0) recent.second ≡ compared_in n s flag recent
     unfolding advance_over
     threshold_over = rw (h, e)
 
-    pub capacity_over : (capacity : ℕ) → has_volume_check s && not (is_within_capacity capacity a s (Read r0)) ≡ is_over_capacity n capacity s flag recent
+    capacity_over : (capacity : ℕ) → has_volume_check s && not (is_within_capacity capacity a s (Some r0)) ≡ is_over_capacity n capacity s flag recent
     unfolding advance_over is_over_capacity
     capacity_over capacity = rw (h, e)
 
+    pub capacity_tested : (capacity : ℕ) {checked within : Bool} → checked ≡ has_volume_check s → within ≡ is_within_capacity capacity a s (Some r0) → checked && not within ≡ is_over_capacity n capacity s flag recent
+    capacity_tested capacity c w = rw (c, w, capacity_over capacity)
+
 -- ---- a query, 19 or 20, is of a read with a volume check, over one that stands
-pub record Query (s : Submission) (last : Slot) : Type 0 where
+pub record Query (s : Submission) (last : Option Entry) : Type 0 where
   pub checked : is_unchecked s.letter ≡ false
   pub read : Entry
-  pub stands : last ≡ Read read
+  pub stands : last ≡ Some read
 
 abbrev is_query : Compared → Bool
 is_query x = eqb (compared_number x) low || eqb (compared_number x) high
@@ -70,16 +72,16 @@ unfolding has_threshold has_volume_check
 threshold_checked s b h =
     not-true _ ((and-eq-true_iff (has_volume_check s) _).0 ((and-eq-true_iff (has_threshold s) b).0 h).0).0
 
-query_over : (n : ℕ) (a : ℤ) (s : Submission) (last second : Slot) → is_query (compared n a s last second) ≡ true → Query s last
+query_over : (n : ℕ) (a : ℤ) (s : Submission) (last second : Option Entry) → is_query (compared n a s last second) ≡ true → Query s last
 unfolding compared compared_number
-query_over n a s (Read r0) (Read r_1) h =
+query_over n a s (Some r0) (Some r_1) h =
     record {
       checked = threshold_checked s (lt_z (pos 0) (last_advance n r0 r_1)) (asked _ _ h);
       read = r0;
       stands = refl;
     }
-query_over n a s (Read r0) Empty h = absurd (let z : ◌≡◌ {A = ℕ} 0 1 = cc in omega arith)
-query_over n a s Empty r h = absurd (let z : ◌≡◌ {A = ℕ} 0 1 = cc in omega arith)
+query_over n a s (Some r0) None h = absurd (let z : ◌≡◌ {A = ℕ} 0 1 = cc in omega arith)
+query_over n a s None r h = absurd (let z : ◌≡◌ {A = ℕ} 0 1 = cc in omega arith)
 
 pub query : (n : ℕ) (s : Submission) (flag : ℕ) (recent : Recent) → is_low_volume n s flag recent || is_high_volume n s flag recent ≡ true → Query s recent.last
 unfolding is_low_volume is_high_volume

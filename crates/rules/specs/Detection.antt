@@ -1,11 +1,9 @@
 -- 01, Detection. R1 and D1 are the submitted value and day; R0, R-1 and R-2 stand in the slots of `Recent`, with D0 and D-1 their days.
-use Rattle.std.specs.Prelude.{Bool, true, false, ◌&&◌, cond, ℕ, ◌-◌, ◌*◌, eqb, leb, ltb, ℤ, pos, neg_ℤ, ◌-ℤ◌, ◌*ℤ◌}
+use Rattle.std.specs.Prelude.{Bool, true, false, ◌&&◌, cond, ℕ, ◌-◌, ◌*◌, eqb, leb, ltb, ℤ, pos, neg_ℤ, ◌-ℤ◌, ◌*ℤ◌, Option, Some, None}
 use Rattle.std.specs.Int.Signed.{lt_z}
 use Rattle.arithmetic.specs.Powers.{ten_to}
 use Rattle.arithmetic.specs.Advance.{advance_of}
 use Rattle.terms.specs.declared.entry.Entry.{Entry}
-use Rattle.terms.specs.declared.entry.Slot.{Slot}
-use Rattle.terms.specs.declared.entry.Slot.TheVariants.{Read, Empty}
 use Rattle.terms.specs.declared.entry.Recent.{Recent}
 use Rattle.terms.specs.declared.submission.Submission.{Submission}
 use Rattle.rules.specs.declared.detection.Detected.{Detected}
@@ -32,9 +30,9 @@ plain_advance n newer older = advance_of n newer.value 0 older.value
 unfoldable pub is_small_step : ℕ → Submission → Entry → Bool
 is_small_step n s r0 = lt_z (neg_ℤ (pos (step_back n))) (advance_of n s.value 0 r0.value)
 
-unfoldable pub is_not_rollover : ℕ → Submission → Slot → Bool
-is_not_rollover n s (Read r0) = is_small_step n s r0
-is_not_rollover n s Empty = true
+unfoldable pub is_not_rollover : ℕ → Submission → Option Entry → Bool
+is_not_rollover n s (Some r0) = is_small_step n s r0
+is_not_rollover n s None = true
 
 -- "(1) R0 plain, R0 ≥ 90 × 10^(n−2), R1 < 10 × 10^(n−2)."
 unfoldable pub is_near_turn : ℕ → Submission → Entry → Bool
@@ -70,13 +68,13 @@ is_small_advance n newer older = (is_plain older && is_plain newer) && is_small_
 unfoldable pub is_rollover : ℕ → Submission → Recent → Bool
 is_rollover n s recent = all_five recent.last recent.second recent.third
   where
-    all_five : Slot → Slot → Slot → Bool
-    all_five (Read r0) (Read r_1) (Read r_2) =
+    all_five : Option Entry → Option Entry → Option Entry → Bool
+    all_five (Some r0) (Some r_1) (Some r_2) =
         is_near_turn n s r0
         && (is_like_rate n s r0 r_1 && (is_small_turn n s r0 && (is_small_advance n r0 r_1 && is_small_advance n r_1 r_2)))
-    all_five (Read r0) (Read r_1) Empty = false
-    all_five (Read r0) Empty r = false
-    all_five Empty q r = false
+    all_five (Some r0) (Some r_1) None = false
+    all_five (Some r0) None r = false
+    all_five None q r = false
 
 -- Not a Rollover is "decided first"; "Otherwise Indeterminate."
 unfoldable pub detected : ℕ → Submission → Recent → Detected

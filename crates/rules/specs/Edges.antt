@@ -1,15 +1,15 @@
 -- 01, Pairs at an edge: those marked P, as one table under one claim. "Four dials; spacing 180 days where it counts." After
 -- them, for 02, 5, rows of detection on three dials.
-use Rattle.std.specs.Prelude.{◌≡◌, Bool, true, false, ◌&&◌, cond, List, [], ◌∷◌, ℕ, ◌+◌, ◌*◌, eqb, length}
+use Rattle.std.specs.Prelude.{◌≡◌, Bool, true, false, ◌&&◌, cond, List, [], ◌∷◌, ℕ, ◌+◌, ◌*◌, eqb, length, Result}
 use Rattle.terms.specs.declared.entry.Entry.{Entry}
 use Rattle.terms.specs.declared.entry.Recent.{Recent}
 use Rattle.terms.specs.declared.submission.Submission.{Submission}
 use Rattle.terms.specs.Entry.{recent_of, kind_standing, indicator_not_set}
 use Rattle.terms.specs.Letter.{letter_c}
+use Rattle.terms.specs.declared.refusal.Refusal.{Refusal}
 use Rattle.terms.specs.Number.{accepted, read_ef, low, high, over_capacity}
 use Rattle.rules.specs.declared.detection.Detected.{Detected}
 use Rattle.rules.specs.declared.detection.Detected.TheVariants.{NotRollover, Rollover, Indeterminate}
-use Rattle.rules.specs.declared.indicator.Indicated.{Indicated}
 use Rattle.rules.specs.Detection.{detected}
 use Rattle.rules.specs.Indicator.{indicated, indicated_number, indicated_flag}
 use Rattle.rules.specs.Volume.{volume_number}
@@ -201,7 +201,7 @@ detected_at e = detected e.dials (submitted_read e) (recent_of (standing_reads e
 unfoldable pub number_at : Edge → ℕ
 number_at e = cond (eqb (indicated_number taken) accepted) (volume_number e.dials e.capacity (submitted_read e) (indicated_flag taken) recent) (indicated_number taken)
   where
-    taken : Indicated
+    taken : Result ℕ Refusal
     taken = indicated (detected_at e) indicator_not_set
 
     recent : Recent

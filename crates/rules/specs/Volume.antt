@@ -1,12 +1,10 @@
 -- 01, Volume, with 02, 1. R1 and D1 are the submitted value and day, R0 and R-1 the last two standing reads, D0 and D-1 their days.
-use Rattle.std.specs.Prelude.{Bool, true, not, cond, ◌&&◌, [], ◌∷◌, ℕ, eqb, ℤ, pos, ◌-ℤ◌, ◌*ℤ◌}
+use Rattle.std.specs.Prelude.{Bool, true, not, cond, ◌&&◌, [], ◌∷◌, ℕ, eqb, ℤ, pos, ◌-ℤ◌, ◌*ℤ◌, Option, Some, None}
 use Rattle.std.specs.Int.Signed.{lt_z}
 use Rattle.calendar.specs.Year.{year_length}
 use Rattle.calendar.specs.Date.{date_of}
 use Rattle.arithmetic.specs.Advance.{advance_of}
 use Rattle.terms.specs.declared.entry.Entry.{Entry}
-use Rattle.terms.specs.declared.entry.Slot.{Slot}
-use Rattle.terms.specs.declared.entry.Slot.TheVariants.{Read, Empty}
 use Rattle.terms.specs.declared.entry.Recent.{Recent}
 use Rattle.terms.specs.declared.submission.Submission.{Submission}
 use Rattle.terms.specs.Letter.{is_unchecked}
@@ -18,9 +16,9 @@ use Rattle.rules.specs.Settings.{whole_percent, low_percent, high_percent}
 use Rattle.rules.specs.Detection.{scaled_of}
 
 -- "The advance a is a signed whole number, R1 − R0 + flag × 10^n, and 0 where no read stands"
-unfoldable pub advance_over : ℕ → ℕ → ℕ → Slot → ℤ
-advance_over n value flag (Read r0) = advance_of n value flag r0.value
-advance_over n value flag Empty = pos 0
+unfoldable pub advance_over : ℕ → ℕ → ℕ → Option Entry → ℤ
+advance_over n value flag (Some r0) = advance_of n value flag r0.value
+advance_over n value flag None = pos 0
 
 -- "I, O and Y have no volume check."
 unfoldable pub has_volume_check : Submission → Bool
@@ -42,13 +40,13 @@ compared_with a p d1 d0 d_1 =
     (cond (lt_z (scaled_of high_percent p d1 d0) (scaled_of whole_percent a d0 d_1)) High Neither)
 
 -- "Threshold, not for a re-read": "If that exists and p > 0"
-unfoldable pub compared : ℕ → ℤ → Submission → Slot → Slot → Compared
-compared n a s (Read r0) (Read r_1) =
+unfoldable pub compared : ℕ → ℤ → Submission → Option Entry → Option Entry → Compared
+compared n a s (Some r0) (Some r_1) =
     cond (has_threshold s && lt_z (pos 0) (last_advance n r0 r_1))
     (compared_with a (last_advance n r0 r_1) s.day r0.day r_1.day)
     Neither
-compared n a s (Read r0) Empty = Neither
-compared n a s Empty r = Neither
+compared n a s (Some r0) None = Neither
+compared n a s None r = Neither
 
 -- the paper's number for each case
 unfoldable pub compared_number : Compared → ℕ
@@ -62,10 +60,10 @@ days_in_year day = year_length (date_of day).year
 
 -- "Capacity: passes if a × 365 < capacity × d, else 21", with the days of the read's year in the place of 365. Where no read stands there is no d,
 -- and nothing to pass.
-unfoldable pub is_within_capacity : ℕ → ℤ → Submission → Slot → Bool
-is_within_capacity capacity a s (Read r0) =
+unfoldable pub is_within_capacity : ℕ → ℤ → Submission → Option Entry → Bool
+is_within_capacity capacity a s (Some r0) =
     lt_z (a *ℤ pos (days_in_year s.day)) (pos capacity *ℤ (pos s.day -ℤ pos r0.day))
-is_within_capacity capacity a s Empty = true
+is_within_capacity capacity a s None = true
 
 -- a for a read that is taken with this flag, and then 19, 20 and 21
 abbrev pub taken_advance : ℕ → Submission → ℕ → Recent → ℤ

@@ -7,7 +7,7 @@ use crate::rate::scaled;
 use crate::settings::Settings;
 use arithmetic::advance::advance;
 use arithmetic::powers::{mark_unit, power};
-use terms::entry::{Entry, Recent, Slot};
+use terms::entry::{Entry, Recent};
 use terms::submission::Submission;
 
 #[derive(Clone, Copy)]
@@ -81,12 +81,12 @@ fn is_small_advance(n: u8, turn: u64, newer: Entry, older: Entry) -> bool
 }
 
 // No read stands, or the step back is small.
-fn is_not_rollover(n: u8, s: Submission, last: Slot) -> bool
+fn is_not_rollover(n: u8, s: Submission, last: Option<Entry>) -> bool
     ensures { result ≡ is_not_rollover n s last }
 {
     match last {
-        Slot::Read(r0) => is_small_step(n, s, r0),
-        Slot::Empty => true,
+        Some(r0) => is_small_step(n, s, r0),
+        None => true,
     }
 }
 
@@ -94,16 +94,13 @@ fn is_not_rollover(n: u8, s: Submission, last: Slot) -> bool
 fn is_rollover(n: u8, s: Submission, recent: Recent) -> bool
     ensures { result ≡ is_rollover n s recent }
 {
-    let last = recent.last;
-    let second = recent.second;
-    let third = recent.third;
-    let Slot::Read(r0) = last else {
+    let Some(r0) = recent.last else {
         return false;
     };
-    let Slot::Read(r1) = second else {
+    let Some(r1) = recent.second else {
         return false;
     };
-    let Slot::Read(r2) = third else {
+    let Some(r2) = recent.third else {
         return false;
     };
     let turn = power(n);
@@ -117,8 +114,7 @@ fn is_rollover(n: u8, s: Submission, recent: Recent) -> bool
 pub fn detect(n: u8, s: Submission, recent: Recent) -> Detected
     ensures { result ≡ detected n s recent }
 {
-    let last = recent.last;
-    if is_not_rollover(n, s, last) {
+    if is_not_rollover(n, s, recent.last) {
         return Detected::NotRollover;
     }
     if is_rollover(n, s, recent) {

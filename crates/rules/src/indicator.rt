@@ -3,41 +3,34 @@ ghost use Rattle.std.specs.Prelude.{◌≡◌};
 ghost use Rattle.rules.specs.Indicator.{indicated};
 
 use crate::detection::Detected;
+use terms::refusal::Refusal;
 use terms::submission::Indicator;
 
-#[derive(Clone, Copy)]
-pub enum Indicated {
-    // 17: the indicator denies what detection found.
-    Denied,
-    // 18: detection is unclear and the indicator silent.
-    Unclear,
-    Flag(u8),
-}
-
-pub fn indicate(found: Detected, indicator: u8) -> Indicated
+// The flag that a read is taken with. 17 where the indicator denies what detection found, 18 where detection is unclear and the indicator silent.
+pub fn indicate(found: Detected, indicator: u8) -> Result<u8, Refusal>
     ensures { result ≡ indicated found indicator }
 {
     match found {
         Detected::Rollover => {
-            if indicator == Indicator::FALSE {
-                return Indicated::Denied;
+            if indicator == Indicator::False as u8 {
+                return Err(Refusal::Ee);
             }
-            Indicated::Flag(1)
+            Ok(1)
         }
         Detected::NotRollover => {
-            if indicator == Indicator::TRUE {
-                return Indicated::Denied;
+            if indicator == Indicator::True as u8 {
+                return Err(Refusal::Ee);
             }
-            Indicated::Flag(0)
+            Ok(0)
         }
         Detected::Indeterminate => {
-            if indicator == Indicator::NOT_SET {
-                return Indicated::Unclear;
+            if indicator == Indicator::NotSet as u8 {
+                return Err(Refusal::Ef);
             }
-            if indicator == Indicator::TRUE {
-                return Indicated::Flag(1);
+            if indicator == Indicator::True as u8 {
+                return Ok(1);
             }
-            Indicated::Flag(0)
+            Ok(0)
         }
     }
 }

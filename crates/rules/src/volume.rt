@@ -1,15 +1,16 @@
 // Volume: whether an advance is low or high against the one before, or over the meter's capacity.
-ghost use Rattle.std.specs.Prelude.{◌≡◌};
+ghost use Rattle.std.specs.Prelude.{◌≡◌, Some};
 ghost use Rattle.arithmetic.specs.Inner.Bounds.{Within, advance_most};
+ghost use Rattle.terms.specs.Refusal.{number_in};
 ghost use Rattle.rules.specs.Volume.{advance_over, has_volume_check, has_threshold, compared_with, compared, compared_number, days_in_year, is_within_capacity, volume_number};
 
 use crate::rate::scaled;
 use crate::settings::Settings;
 use arithmetic::advance::advance;
 use calendar::year::{year_length, year_of};
-use terms::entry::{Entry, Recent, Slot};
+use terms::entry::{Entry, Recent};
 use terms::letter::is_unchecked;
-use terms::number::Number;
+use terms::refusal::Refusal;
 use terms::submission::Submission;
 
 // Where an advance lies against the one before.
@@ -23,12 +24,12 @@ pub enum Compared {
 }
 
 // The advance over the last standing read, and 0 where none stands.
-pub fn advance_over(n: u8, value: u32, flag: u8, last: Slot) -> i64
+pub fn advance_over(n: u8, value: u32, flag: u8, last: Option<Entry>) -> i64
     ensures { result ≡ advance_over n value flag last }
 {
     match last {
-        Slot::Read(r0) => advance(n, value, flag, r0.value),
-        Slot::Empty => 0,
+        Some(r0) => advance(n, value, flag, r0.value),
+        None => 0,
     }
 }
 
@@ -62,11 +63,11 @@ fn compare_with(a: i64, p: i64, s: Submission, r0: Entry, r1: Entry) -> Compared
 }
 
 // The threshold for an advance a over the last read. Where that is the only one, there is no p.
-fn compare(n: u8, a: i64, s: Submission, r0: Entry, second: Slot) -> Compared
+fn compare(n: u8, a: i64, s: Submission, r0: Entry, second: Option<Entry>) -> Compared
     requires { Within a advance_most }
-    ensures { result ≡ compared n a s (Slot.Read r0) second }
+    ensures { result ≡ compared n a s (Some r0) second }
 {
-    let Slot::Read(r1) = second else {
+    let Some(r1) = second else {
         return Compared::Neither;
     };
     let p = advance(n, r0.value, r0.flag, r1.value);
@@ -76,14 +77,14 @@ fn compare(n: u8, a: i64, s: Submission, r0: Entry, second: Slot) -> Compared
     Compared::Neither
 }
 
-// The paper's number for each case.
-fn compared_number(c: Compared) -> u8
-    ensures { result ≡ compared_number c }
+// 19 or 20 for an advance past the threshold.
+fn within_threshold(c: Compared) -> Result<(), Refusal>
+    ensures { number_in result ≡ compared_number c }
 {
     match c {
-        Compared::Low => Number::LOW,
-        Compared::High => Number::HIGH,
-        Compared::Neither => Number::ACCEPTED,
+        Compared::Low => Err(Refusal::Low),
+        Compared::High => Err(Refusal::High),
+        Compared::Neither => Ok(()),
     }
 }
 
@@ -97,28 +98,24 @@ fn days_in_year(day: u16) -> u16
 // The advance over a year at this rate is less than the capacity; strict, as 001's formula is.
 fn is_within_capacity(capacity: u32, a: i64, s: Submission, r0: Entry) -> bool
     requires { Within a advance_most }
-    ensures { result ≡ is_within_capacity capacity a s (Slot.Read r0) }
+    ensures { result ≡ is_within_capacity capacity a s (Some r0) }
 {
     let days = days_in_year(s.day);
     a * (days as i64) < (capacity as i64) * ((s.day as i64) - (r0.day as i64))
 }
 
-// 19, 20, 21 or 0 for a read that is taken with this flag. Where no read stands nothing is checked.
-pub fn volume(n: u8, capacity: u32, s: Submission, flag: u8, recent: Recent) -> u8
-    ensures { result ≡ volume_number n capacity s flag recent }
+// 19, 20 or 21 for a read that is taken with this flag. Where no read stands nothing is checked.
+pub fn volume(n: u8, capacity: u32, s: Submission, flag: u8, recent: Recent) -> Result<(), Refusal>
+    ensures { number_in result ≡ volume_number n capacity s flag recent }
 {
     let last = recent.last;
-    let second = recent.second;
-    let Slot::Read(r0) = last else {
-        return Number::ACCEPTED;
+    let Some(r0) = last else {
+        return Ok(());
     };
     let a = advance(n, s.value, flag, r0.value);
-    let number = compared_number(compare(n, a, s, r0, second));
-    if number != Number::ACCEPTED {
-        return number;
-    }
+    within_threshold(compare(n, a, s, r0, recent.second))?;
     if has_volume_check(s) & !is_within_capacity(capacity, a, s, r0) {
-        return Number::CAPACITY;
+        return Err(Refusal::Capacity);
     }
-    Number::ACCEPTED
+    Ok(())
 }

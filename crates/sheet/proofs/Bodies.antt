@@ -12,11 +12,10 @@ use Rattle.register.proofs.Parts.{part_byte, part_word, part_long}
 use Rattle.calls.specs.declared.call.Call.{Call}
 use Rattle.sheet.specs.declared.form.Form.{Form}
 use Rattle.sheet.specs.declared.form.Form.TheVariants.{Enrol, Submit, Withdraw, Report, Fold}
-use Rattle.sheet.specs.declared.form.Kind.{Kind}
-use Rattle.sheet.specs.declared.form.Kind.TheVariants.{Known, Unknown}
 use Rattle.sheet.specs.declared.split.Next.{Next}
 use Rattle.sheet.specs.declared.split.Next.TheVariants.{Found, End, Fault}
-use Rattle.sheet.specs.Sheet.{body_bytes, call_at, kind_of, entry_at, next_at}
+use Rattle.std.specs.Prelude.{Option, Some, None}
+use Rattle.sheet.specs.Sheet.{body_bytes, call_at, form_of, entry_at, next_at}
 
 -- ---- a body that is lent: its call is that of the sheet where it starts
 module _ (sheet : List ℕ) (i n : ℕ) where
@@ -57,15 +56,15 @@ module _ (sheet : List ℕ) (at : ℕ) where
   past h = rw (le-leb (length sheet) at h)
 
   module _ (before : at < length sheet) where
-    entry : {kind : Kind} → kind ≡ kind_of (byte_at sheet at) → entry_at kind sheet at ≡ next_at sheet at
+    entry : {form : Option Form} → form ≡ form_of (byte_at sheet at) → entry_at form sheet at ≡ next_at sheet at
     unfolding next_at
     entry e = rw (lt-leb (length sheet) at before, e)
 
-    pub unknown : Unknown ≡ kind_of (byte_at sheet at) → Fault ≡ next_at sheet at
+    pub unknown : None ≡ form_of (byte_at sheet at) → Fault ≡ next_at sheet at
     unfolding entry_at
     unknown e = entry e
 
-    module _ {form : Form} {size : ℕ} (known : Known form ≡ kind_of (byte_at sheet at)) (sized : size ≡ body_bytes form) where
+    module _ {form : Form} {size : ℕ} (known : Some form ≡ form_of (byte_at sheet at)) (sized : size ≡ body_bytes form) where
       pub whole : at + 1 + size ≤ length sheet → Found (call_at form sheet (at + 1)) (at + 1 + size) ≡ next_at sheet at
       unfolding entry_at
       whole h = rw sized (rw (le-leb (at + 1 + body_bytes form) (length sheet) (omega arith)) at (entry known))
@@ -92,15 +91,15 @@ module _ (sheet : List ℕ) (at : ℕ) where
   pick_within true h k = h refl
   pick_within false h k = k
 
-  entry_within : (kind : Kind) → Within (entry_at kind sheet at)
+  entry_within : (form : Option Form) → Within (entry_at form sheet at)
   unfolding entry_at
-  entry_within (Known form) =
+  entry_within (Some form) =
       pick_within (leb (at + 1 + body_bytes form) (length sheet)) (λ e. before_end (omega (arith, some_body form)) (leb-true _ _ e)) at_fault
-  entry_within Unknown = at_fault
+  entry_within None = at_fault
 
   all_within : Within (next_at sheet at)
   unfolding next_at
-  all_within = pick_within (leb (length sheet) at) (λ e. at_end) (entry_within (kind_of (byte_at sheet at)))
+  all_within = pick_within (leb (length sheet) at) (λ e. at_end) (entry_within (form_of (byte_at sheet at)))
 
   found_within : {call : Call} {next : ℕ} → Within (Found call next) → (at + 2 ≤ next) × (next ≤ length sheet)
   found_within (before_end h k) = (h, k)

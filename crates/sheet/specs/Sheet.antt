@@ -1,5 +1,5 @@
 -- 01, Day sheet and its program: the calls that a sheet holds. "Kind byte, then body".
-use Rattle.std.specs.Prelude.{Bool, true, false, cond, List, [], ◌∷◌, ℕ, zero, suc, ◌+◌, eqb, leb, ltb, length}
+use Rattle.std.specs.Prelude.{Bool, true, false, cond, List, [], ◌∷◌, ℕ, zero, suc, ◌+◌, eqb, leb, ltb, length, Option, Some, None, find}
 use Rattle.terms.specs.declared.profile.Profile.TheVariants.{Ordinary, Pseudo}
 use Rattle.terms.specs.Number.{accepted, sheet_fault}
 use Rattle.register.specs.Bytes.{byte_at, word_at, long_at}
@@ -7,8 +7,6 @@ use Rattle.calls.specs.declared.call.Call.{Call}
 use Rattle.calls.specs.declared.call.Call.TheVariants as call
 use Rattle.sheet.specs.declared.form.Form.{Form}
 use Rattle.sheet.specs.declared.form.Form.TheVariants.{Enrol, Submit, Withdraw, Report, Fold}
-use Rattle.sheet.specs.declared.form.Kind.{Kind}
-use Rattle.sheet.specs.declared.form.Kind.TheVariants.{Known, Unknown}
 use Rattle.sheet.specs.declared.split.Next.{Next}
 use Rattle.sheet.specs.declared.split.Next.TheVariants.{Found, End, Fault}
 
@@ -61,24 +59,20 @@ call_at Fold sheet i = call.Fold (byte_at sheet i)
 -- ---- an entry
 
 -- the form whose number a kind byte is, or none
-unfoldable pub kind_in : List Form → ℕ → Kind
-kind_in [] byte = Unknown
-kind_in (form ∷ rest) byte = cond (eqb byte (kind_byte form)) (Known form) (kind_in rest byte)
+unfoldable pub form_of : ℕ → Option Form
+form_of byte = find (λ form. eqb byte (kind_byte form)) forms
 
-unfoldable pub kind_of : ℕ → Kind
-kind_of byte = kind_in forms byte
-
--- an entry by its kind, with the kind byte at `at`: the call of a body that is there whole, and where the next entry starts. A cut body and an
+-- an entry by its form, with the kind byte at `at`: the call of a body that is there whole, and where the next entry starts. A cut body and an
 -- unknown kind are faults.
-unfoldable pub entry_at : Kind → List ℕ → ℕ → Next
-entry_at (Known form) sheet at =
+unfoldable pub entry_at : Option Form → List ℕ → ℕ → Next
+entry_at (Some form) sheet at =
     let next = at + 1 + body_bytes form in
     cond (leb next (length sheet)) (Found (call_at form sheet (at + 1)) next) Fault
-entry_at Unknown sheet at = Fault
+entry_at None sheet at = Fault
 
 -- what stands at a position of a sheet: its end, a call, or a fault
 unfoldable pub next_at : List ℕ → ℕ → Next
-next_at sheet at = cond (leb (length sheet) at) End (entry_at (kind_of (byte_at sheet at)) sheet at)
+next_at sheet at = cond (leb (length sheet) at) End (entry_at (form_of (byte_at sheet at)) sheet at)
 
 -- the paper's number for what stands there: 26 for "unknown kind, cut body", and for the rest none of its own
 unfoldable pub next_number : Next → ℕ

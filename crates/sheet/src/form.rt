@@ -1,8 +1,19 @@
 // The form of an entry: what its kind byte says of the body after it.
 ghost use Rattle.std.specs.Prelude.{◌≡◌};
-ghost use Rattle.sheet.specs.Sheet.{kind_of, body_bytes};
+ghost use Rattle.sheet.specs.Sheet.{form_of, body_bytes};
 
 use terms::profile::Profile;
+
+// How long each form's body is.
+pub(crate) const ENROL_BYTES: u8 = 6;
+
+pub(crate) const SUBMIT_BYTES: u8 = 12;
+
+pub(crate) const WITHDRAW_BYTES: u8 = 7;
+
+const REPORT_BYTES: u8 = 1;
+
+const FOLD_BYTES: u8 = 1;
 
 // One for each kind of call that a sheet may hold.
 #[derive(Clone, Copy)]
@@ -14,52 +25,33 @@ pub enum Form {
     Fold,
 }
 
-// What a kind byte says: the form, if there is one of that number.
-#[derive(Clone, Copy)]
-pub enum Kind {
-    Known(Form),
-    Unknown,
-}
-
-pub fn kind_of(byte: u8) -> Kind
-    ensures { result ≡ kind_of byte }
-{
-    match byte {
-        1 => Kind::Known(Form::Enrol(Profile::Ordinary)),
-        2 => Kind::Known(Form::Submit),
-        3 => Kind::Known(Form::Withdraw),
-        4 => Kind::Known(Form::Report),
-        5 => Kind::Known(Form::Fold),
-        6 => Kind::Known(Form::Enrol(Profile::Pseudo)),
-        _ => Kind::Unknown,
+impl Form {
+    // A byte holds it, so what is added to a position in a sheet is small.
+    pub fn body_bytes(self) -> u8
+        ensures { result ≡ body_bytes self }
+    {
+        match self {
+            Form::Enrol(_) => ENROL_BYTES,
+            Form::Submit => SUBMIT_BYTES,
+            Form::Withdraw => WITHDRAW_BYTES,
+            Form::Report => REPORT_BYTES,
+            Form::Fold => FOLD_BYTES,
+        }
     }
 }
 
-// How long a body is.
-#[derive(Clone, Copy)]
-pub struct BodySize;
-
-impl BodySize {
-    pub const ENROL: u8 = 6;
-
-    pub const SUBMIT: u8 = 12;
-
-    pub const WITHDRAW: u8 = 7;
-
-    pub const REPORT: u8 = 1;
-
-    pub const FOLD: u8 = 1;
-}
-
-// A byte holds it, so what is added to a position in a sheet is small.
-pub fn body_bytes(form: Form) -> u8
-    ensures { result ≡ body_bytes form }
+// The form whose number a kind byte is, if there is one.
+#[tactic(auto, unfolding(crate::specs::Sheet::kind_byte, crate::specs::Sheet::form_of))]
+pub fn form_of(byte: u8) -> Option<Form>
+    ensures { result ≡ form_of byte }
 {
-    match form {
-        Form::Enrol(_) => BodySize::ENROL,
-        Form::Submit => BodySize::SUBMIT,
-        Form::Withdraw => BodySize::WITHDRAW,
-        Form::Report => BodySize::REPORT,
-        Form::Fold => BodySize::FOLD,
+    match byte {
+        1 => Some(Form::Enrol(Profile::Ordinary)),
+        2 => Some(Form::Submit),
+        3 => Some(Form::Withdraw),
+        4 => Some(Form::Report),
+        5 => Some(Form::Fold),
+        6 => Some(Form::Enrol(Profile::Pseudo)),
+        _ => None,
     }
 }

@@ -1,3 +1,4 @@
+pub mod Groups
 pub mod Ordered
 pub mod Stages
-pub mod Taken
+pub mod Weighed

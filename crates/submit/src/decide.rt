@@ -1,128 +1,118 @@
-// The decision on a submission: the number of the first rule broken, and what an accepted or a held read is stored with.
+// The decision on a submission: why it is refused, or the entry that is written and what is answered with it.
 ghost use Rattle.std.specs.Prelude.{◌≡◌, length};
 ghost use Rattle.terms.specs.Entry.{recent_of};
+ghost use Rattle.terms.specs.Refusal.{number_of, number_in};
 ghost use Rattle.terms.specs.Rule.{first_broken};
-ghost use Rattle.rules.specs.Volume.{advance_over, volume_number};
 ghost use Rattle.register.specs.Area.{area_bytes};
-ghost use Rattle.register.specs.Head.{offset_after};
-ghost use Rattle.journal.specs.Journal.{Journal, journal_of, standing};
-ghost use Rattle.judge.specs.Inner.Judged.{summary_of, Counted};
-ghost use Rattle.calls.specs.Checks.{is_withdrawn_read, submit_rules};
-ghost use Rattle.submit.specs.Inner.Decision.{refused_decision, decided, decided_in, decision_of, judged_rules};
+ghost use Rattle.journal.specs.Journal.{journal_of, standing};
+ghost use Rattle.calls.specs.Checks.{is_withdrawn_read, taken_flag, volume_rules};
+ghost use Rattle.calls.specs.Calls.{entry_for, is_volume_query, submit_in};
+ghost use Rattle.submit.specs.Inner.Decision.{carried_out, submitted, checked_rules, judged_rules};
 
-use crate::content::content_number;
-use crate::order::order_number;
-use crate::same_day::same_day_number;
-use judge::area::{Judged, Summary, judge_area};
-use reads::found::read_on;
+use crate::content::check_content;
+use crate::order::check_order;
+use crate::same_day::check_same_day;
+use judge::area::judge_area;
+use judge::sound::Sound;
 use reads::recent::recent;
-use register::area::Layout;
 use register::head::offset_after;
 use rules::detection::detect;
-use rules::indicator::{Indicated, indicate};
+use rules::indicator::indicate;
 use rules::volume::{advance_over, volume};
-use terms::entry::Recent;
-use terms::number::Number;
+use terms::answer::Accepted;
+use terms::entry::{Entry, Kind, Recent};
+use terms::refusal::Refusal;
 use terms::submission::Submission;
 
+// How a read is written, and what is answered with it.
 #[derive(Clone, Copy)]
-pub struct Decision {
-    pub number: u8,
-    // The flag that a read is stored with.
-    pub flag: u8,
-    // The advance over the last standing read.
-    pub advance: i64,
-    // The byte of the area at which a read is written.
+pub(crate) struct Decision {
+    // The byte of the area at which its entry starts.
     pub at: u16,
+    pub entry: Entry,
+    // A read that stands is accepted, and one that is held is refused with 19 or 20.
+    pub answer: Result<Accepted, Refusal>,
 }
 
-// A number that writes nothing.
-fn refused(number: u8) -> Decision
-    ensures { result ≡ refused_decision number }
+// The submitted read as an entry.
+#[tactic(auto, unfolding(calls::specs::Calls::entry_for))]
+fn entry_for(kind: u8, s: Submission, flag: u8) -> Entry
+    ensures { result ≡ entry_for kind s flag }
 {
-    Decision {
-        number,
-        flag: 0,
-        advance: 0,
-        at: 0,
+    Entry {
+        kind,
+        day: s.day,
+        value: s.value,
+        letter: s.letter,
+        indicator: s.indicator,
+        flag,
     }
 }
 
-// 19 to 21 for a read that is taken with this flag, or 0.
-fn weigh(s: Submission, t: Summary, recent: Recent, flag: u8) -> Decision
-    ensures { result ≡ decided (volume_number t.head.dials t.head.capacity s flag recent) flag (advance_over t.head.dials s.value flag recent.last) (offset_after t.head t.counts.kept) }
+// 19 or 20: a volume query, which stores the read as held.
+#[tactic(auto, unfolding(terms::specs::Refusal::number_of))]
+fn is_volume_query(refusal: Refusal) -> bool
+    ensures { result ≡ is_volume_query (number_of refusal) }
 {
-    let head = t.head;
-    let last = recent.last;
-    let counts = t.counts;
-    let at = offset_after(head, counts.kept);
-    let number = volume(head.dials, head.capacity, s, flag, recent);
-    if number == Number::ACCEPTED {
-        return Decision {
-            number,
-            flag,
-            advance: advance_over(head.dials, s.value, flag, last),
+    matches!(refusal, Refusal::Low | Refusal::High)
+}
+
+// 19 to 21 for a read that is taken with this flag: it stands, it is held, or it is not written.
+#[tactic(auto, using(crate::proofs::Weighed::weighing))]
+fn weigh(journal: &Sound, s: Submission, recent: Recent, flag: u8) -> Result<Decision, Refusal>
+    requires last { recent ≡ recent_of (standing (journal_of journal.now.area.now).entries) }
+    requires taken { flag ≡ taken_flag s (journal_of journal.now.area.now) }
+    ensures { carried_out result journal.now.area.now ≡ submitted s journal.now.area.now (first_broken (volume_rules s (journal_of journal.now.area.now))) }
+{
+    let head = journal.summary.head;
+    let at = offset_after(head, journal.summary.counts.kept);
+    match volume(head.dials, head.capacity, s, flag, recent) {
+        Ok(()) => Ok(Decision {
             at,
-        };
-    }
-    if (number == Number::LOW) | (number == Number::HIGH) {
-        return Decision {
-            number,
-            flag,
-            advance: 0,
+            entry: entry_for(Kind::Standing as u8, s, flag),
+            answer: Ok(Accepted {
+                flag,
+                advance: advance_over(head.dials, s.value, flag, recent.last),
+            }),
+        }),
+        Err(refusal) if is_volume_query(refusal) => Ok(Decision {
             at,
-        };
+            entry: entry_for(Kind::Held as u8, s, flag),
+            answer: Err(refusal),
+        }),
+        Err(refusal) => Err(refusal),
     }
-    refused(number)
 }
 
-// 17 to 21, or 0: what is asked once the read is in order. The volume is checked with the flag that detection and indicator give.
-fn judge(s: Submission, t: Summary, recent: Recent) -> Decision
-    ensures { (j : Journal) → t ≡ summary_of j → recent ≡ recent_of (standing j.entries) → result ≡ decided_in s j (first_broken (judged_rules s j)) }
+// 17 to 21: what is asked once the read is in order. The volume is checked with the flag that detection and indicator give.
+#[tactic(auto, using(crate::proofs::Stages::judgement), unfolding(calls::specs::Checks::indicated_in, rules::specs::Indicator::indicated_flag, judge::specs::Inner::Judged::summary_of))]
+fn judge(journal: &Sound, s: Submission) -> Result<Decision, Refusal>
+    ensures { carried_out result journal.now.area.now ≡ submitted s journal.now.area.now (first_broken (judged_rules s (journal_of journal.now.area.now))) }
 {
-    let head = t.head;
-    match indicate(detect(head.dials, s, recent), s.indicator) {
-        Indicated::Denied => refused(Number::EE),
-        Indicated::Unclear => refused(Number::EF),
-        Indicated::Flag(flag) => weigh(s, t, recent, flag),
-    }
+    let recent = recent(journal);
+    let flag = indicate(detect(journal.summary.head.dials, s, recent), s.indicator)?;
+    weigh(journal, s, recent, flag)
 }
 
-// Every rule that a sound journal is asked, group by group, with the entries that the group needs: the last reads only where none of 5 to 16
-// is broken.
-fn decide_sound(area: &[u8], s: Submission, t: Summary, withdrawn: bool) -> Decision
-    requires { Counted area.now t × (withdrawn ≡ is_withdrawn_read s (journal_of area.now).entries) }
-    ensures { result ≡ decided_in s (journal_of area.now) (first_broken (submit_rules s (journal_of area.now))) }
+// 1, 5 to 16 and 29: what is asked of a read before detection. It stands apart from `decide` for speed: after a longer row of `?` there the
+// compiler takes the judgement for rare and makes a call of it.
+#[tactic(auto, using(crate::proofs::Stages::groups), unfolding(calls::specs::Checks::content_rules, calls::specs::Checks::same_day_rules))]
+fn check(journal: &Sound, s: Submission, withdrawn: bool) -> Result<(), Refusal>
+    requires { withdrawn ≡ is_withdrawn_read s (journal_of journal.now.area.now).entries }
+    ensures { number_in result ≡ first_broken (checked_rules s (journal_of journal.now.area.now)) }
 {
-    let content = content_number(s, t, withdrawn);
-    if content != Number::ACCEPTED {
-        return refused(content);
-    }
-    let same_day = same_day_number(s, read_on(area, t, s.day));
-    if same_day != Number::ACCEPTED {
-        return refused(same_day);
-    }
-    let order = order_number(area, s, t);
-    if order != Number::ACCEPTED {
-        return refused(order);
-    }
-    judge(s, t, recent(area, t))
+    check_content(journal, s, withdrawn)?;
+    check_same_day(journal, s)?;
+    check_order(journal, s)
 }
 
-// What an area makes of a submission. Nothing is written.
-pub(crate) fn decide(area: &[u8], s: Submission) -> Decision
+// What an area makes of a submission. Nothing is written. The last reads are asked for only where none of 5 to 16 is broken.
+#[tactic(auto, using(crate::proofs::Stages::decision), unfolding(calls::specs::Checks::is_withdrawn_read))]
+pub(crate) fn decide(area: &[u8], s: Submission) -> Result<Decision, Refusal>
     requires { length area.now ≡ area_bytes }
-    ensures { result ≡ decision_of s area.now }
+    ensures { carried_out result area.now ≡ submit_in s area.now }
 {
-    let judgement = judge_area(area, s.day, s.value);
-    let found = judgement.found;
-    match found {
-        Judged::Zero => refused(Number::NO_METER),
-        Judged::Damaged => refused(Number::DAMAGED),
-        Judged::Sound(t) => {
-            // Of a part whose length is written out the questions need not test it.
-            let whole = &area[0..Layout::AREA_BYTES];
-            decide_sound(whole, s, t, judgement.withdrawn)
-        }
-    }
+    let judged = judge_area(area, s.day, s.value)?;
+    check(&judged.journal, s, judged.withdrawn)?;
+    judge(&judged.journal, s)
 }

@@ -2,7 +2,7 @@
 #![tactic(auto)]
 
 mod content;
-pub mod decide;
+mod decide;
 mod order;
 mod same_day;
 pub mod submit;

@@ -1,104 +1,110 @@
 // The submitted read after those of the journal: 12, 13, 9 and 14 to 16.
-ghost use Rattle.std.specs.Prelude.{◌≡◌, false};
+ghost use Rattle.std.specs.Prelude.{◌≡◌, false, Some};
 ghost use Rattle.terms.specs.Entry.{slot_at};
+ghost use Rattle.terms.specs.Refusal.{number_in};
 ghost use Rattle.terms.specs.Rule.{first_broken};
-ghost use Rattle.journal.specs.Journal.{Journal, journal_of, standing, kept, held_of, is_there};
-ghost use Rattle.judge.specs.Inner.Judged.{summary_of, Counted};
+ghost use Rattle.journal.specs.Journal.{journal_of, standing, held_of, is_there};
 ghost use Rattle.calls.specs.Checks.{is_bad_date, is_back_dated, is_unopened, is_at_later, is_opening_indicated, is_held_equal, is_unheld_reread, is_full, same_day, order_rules};
 
-use judge::area::Summary;
+use journal::order::has_read;
+use judge::sound::Sound;
 use reads::held::held;
-use register::head::{Head, most_entries};
-use terms::entry::Slot;
+use register::head::most_entries;
+use terms::entry::Entry;
 use terms::letter::{Letter, is_opening};
-use terms::number::Number;
+use terms::refusal::Refusal;
 use terms::submission::{Indicator, Submission};
 
 // 12: earlier than the last standing read. The submitted day is not 0, and no read of that day stands: a day that is not after the last one
 // is before it. Where none stands the last day is 0. Equal days are among those that the search was made for, and the two tests are then one.
-fn is_back_dated(s: Submission, t: Summary) -> bool
-    ensures { (j : Journal) → t ≡ summary_of j → is_bad_date s ≡ false → is_there (same_day s j) ≡ false → result ≡ is_back_dated s (slot_at (standing j.entries) 0) }
+#[tactic(auto, using(crate::proofs::Ordered::past_is), unfolding(judge::specs::Inner::Judged::summary_of))]
+fn is_back_dated(journal: &Sound, s: Submission) -> bool
+    requires dated { is_bad_date s ≡ false }
+    requires alone { is_there (same_day s (journal_of journal.now.area.now)) ≡ false }
+    ensures { result ≡ is_back_dated s (slot_at (standing (journal_of journal.now.area.now).entries) 0) }
 {
-    s.day <= t.day
+    s.day <= journal.summary.day
 }
 
 // 13: none stands, and the type is not I or O.
-fn is_unopened(s: Submission, t: Summary) -> bool
-    ensures { (j : Journal) → t ≡ summary_of j → result ≡ is_unopened s (standing j.entries) }
+#[tactic(auto, using(crate::proofs::Ordered::none_counted), unfolding(calls::specs::Checks::is_unopened, judge::specs::Inner::Judged::summary_of, judge::specs::Inner::Judged::counts_of))]
+fn is_unopened(journal: &Sound, s: Submission) -> bool
+    ensures { result ≡ is_unopened s (standing (journal_of journal.now.area.now).entries) }
 {
-    let counts = t.counts;
-    (counts.standing == 0) & !is_opening(s.letter)
+    (journal.summary.counts.standing == 0) & !is_opening(s.letter)
 }
 
 // 9 for a type I or O with a read standing, or F with an F standing.
-fn is_at_later(s: Submission, t: Summary) -> bool
-    ensures { (j : Journal) → t ≡ summary_of j → result ≡ is_at_later s (standing j.entries) }
+#[tactic(auto, using(crate::proofs::Ordered::some_counted), unfolding(calls::specs::Checks::is_at_later, judge::specs::Inner::Judged::summary_of, judge::specs::Inner::Judged::counts_of, terms::specs::Letter::is_final))]
+fn is_at_later(journal: &Sound, s: Submission) -> bool
+    ensures { result ≡ is_at_later s (standing (journal_of journal.now.area.now).entries) }
 {
-    let counts = t.counts;
-    (is_opening(s.letter) & (0 < counts.standing)) | ((s.letter == Letter::FINAL) & t.ended)
+    let stands = 0 < journal.summary.counts.standing;
+    (is_opening(s.letter) & stands) | ((s.letter == Letter::Final as u8) & journal.summary.ended)
 }
 
 // 14: I or O with an indicator.
+#[tactic(auto, unfolding(calls::specs::Checks::is_opening_indicated))]
 fn is_opening_indicated(s: Submission) -> bool
     ensures { result ≡ is_opening_indicated s }
 {
-    is_opening(s.letter) & !(s.indicator == Indicator::NOT_SET)
+    is_opening(s.letter) & (s.indicator != Indicator::NotSet as u8)
 }
 
 // The held read is equal to the one submitted.
-fn is_held_equal(s: Submission, held: Slot) -> bool
-    ensures { result ≡ is_held_equal s held }
+#[tactic(auto, unfolding(calls::specs::Checks::is_held_equal))]
+fn is_held_equal(s: Submission, h: Entry) -> bool
+    ensures { result ≡ is_held_equal s (Some h) }
 {
-    match held {
-        Slot::Read(h) => {
-            ((h.day == s.day) & (h.value == s.value))
-                & ((h.letter == s.letter) & (h.indicator == s.indicator))
-        }
-        Slot::Empty => false,
-    }
+    has_read(s.day, s.value, h) & ((h.letter == s.letter) & (h.indicator == s.indicator))
 }
 
 // 15: a re-read, and no held read is equal. Only a re-read asks for the held one.
-fn is_unheld_reread(area: &[u8], s: Submission, t: Summary) -> bool
-    requires { Counted area.now t }
-    ensures { result ≡ is_unheld_reread s (held_of (journal_of area.now).entries) }
+#[tactic(auto, unfolding(calls::specs::Checks::is_unheld_reread, calls::specs::Checks::is_held_equal))]
+fn is_unheld_reread(journal: &Sound, s: Submission) -> bool
+    ensures { result ≡ is_unheld_reread s (held_of (journal_of journal.now.area.now).entries) }
 {
     if s.reread != 1 {
         return false;
     }
-    !is_held_equal(s, held(area, t))
+    match held(journal) {
+        Some(h) => !is_held_equal(s, h),
+        None => true,
+    }
 }
 
 // 16: as many are kept as may follow the head.
-fn is_full(head: Head, count: u8) -> bool
-    ensures { (j : Journal) → head ≡ j.head → count ≡ kept j.entries → result ≡ is_full j }
+#[tactic(auto, unfolding(calls::specs::Checks::is_full, judge::specs::Inner::Judged::summary_of, judge::specs::Inner::Judged::counts_of))]
+fn is_full(journal: &Sound) -> bool
+    ensures { result ≡ is_full (journal_of journal.now.area.now) }
 {
-    count == most_entries(head)
+    journal.summary.counts.kept == most_entries(journal.summary.head)
 }
 
-// The number of the first rule broken, or 0, for a read of a good date on whose day none stands. What is counted tells all but 15.
-pub(crate) fn order_number(area: &[u8], s: Submission, t: Summary) -> u8
-    requires { Counted area.now t }
-    ensures { is_bad_date s ≡ false → is_there (same_day s (journal_of area.now)) ≡ false → result ≡ first_broken (order_rules s (journal_of area.now)) }
+// A read of a good date on whose day none stands. What is counted tells all but 15.
+#[tactic(auto, unfolding(calls::specs::Checks::order_rules, terms::specs::Refusal::number_of))]
+pub(crate) fn check_order(journal: &Sound, s: Submission) -> Result<(), Refusal>
+    requires dated { is_bad_date s ≡ false }
+    requires alone { is_there (same_day s (journal_of journal.now.area.now)) ≡ false }
+    ensures { number_in result ≡ first_broken (order_rules s (journal_of journal.now.area.now)) }
 {
-    let counts = t.counts;
-    if is_back_dated(s, t) {
-        return Number::BACK_DATED;
+    if is_back_dated(journal, s) {
+        return Err(Refusal::BackDated);
     }
-    if is_unopened(s, t) {
-        return Number::DF;
+    if is_unopened(journal, s) {
+        return Err(Refusal::Df);
     }
-    if is_at_later(s, t) {
-        return Number::AT;
+    if is_at_later(journal, s) {
+        return Err(Refusal::At);
     }
     if is_opening_indicated(s) {
-        return Number::INDICATOR_ON_OPENING;
+        return Err(Refusal::IndicatorOnOpening);
     }
-    if is_unheld_reread(area, s, t) {
-        return Number::NO_ORIGINAL;
+    if is_unheld_reread(journal, s) {
+        return Err(Refusal::NoOriginal);
     }
-    if is_full(t.head, counts.kept) {
-        return Number::FULL;
+    if is_full(journal) {
+        return Err(Refusal::Full);
     }
-    Number::ACCEPTED
+    Ok(())
 }

@@ -1,58 +1,58 @@
 // The read that stands on the submitted day: 1, 9, 10, 11.
-ghost use Rattle.std.specs.Prelude.{◌≡◌};
+ghost use Rattle.std.specs.Prelude.{◌≡◌, ◌||◌, eqb, Some};
+ghost use Rattle.terms.specs.Letter.{letter_i, is_final};
+ghost use Rattle.terms.specs.Refusal.{number_in};
 ghost use Rattle.terms.specs.Rule.{first_broken};
-ghost use Rattle.journal.specs.Journal.{Journal, standing, on_day};
-ghost use Rattle.calls.specs.Checks.{is_repeat, is_at_on_day, is_other_indicator, same_day_rules};
+ghost use Rattle.journal.specs.Journal.{journal_of};
+ghost use Rattle.calls.specs.Checks.{is_repeat, is_other_indicator, same_day_rules};
 
-use journal::slot::is_there;
-use terms::entry::Slot;
+use judge::sound::Sound;
+use reads::found::read_on;
+use terms::entry::Entry;
 use terms::letter::Letter;
-use terms::number::Number;
+use terms::refusal::Refusal;
 use terms::submission::Submission;
 
 // 1: the read that stands on that day is this one.
-fn is_repeat(s: Submission, sameday: Slot) -> bool
-    ensures { result ≡ is_repeat s sameday }
+#[tactic(auto, unfolding(calls::specs::Checks::is_repeat))]
+fn is_repeat(s: Submission, e: Entry) -> bool
+    ensures { result ≡ is_repeat s (Some e) }
 {
-    match sameday {
-        Slot::Read(e) => (e.letter == s.letter)
-            & ((e.value == s.value) & (e.indicator == s.indicator)),
-        Slot::Empty => false,
-    }
+    (e.letter == s.letter) & ((e.value == s.value) & (e.indicator == s.indicator))
 }
 
-// 9 for a type I or F where a read of that day stands.
-fn is_at_on_day(s: Submission, sameday: Slot) -> bool
-    ensures { result ≡ is_at_on_day s sameday }
+// 9 for a type I or F, whatever the read of that day is.
+#[tactic(auto, unfolding(terms::specs::Letter::is_final))]
+fn is_at_on_day(s: Submission) -> bool
+    ensures { result ≡ (eqb s.letter letter_i || is_final s.letter) }
 {
-    is_there(sameday) & ((s.letter == Letter::INITIAL) | (s.letter == Letter::FINAL))
+    (s.letter == Letter::Initial as u8) | (s.letter == Letter::Final as u8)
 }
 
 // 10.
-fn is_other_indicator(s: Submission, sameday: Slot) -> bool
-    ensures { result ≡ is_other_indicator s sameday }
+#[tactic(auto, unfolding(calls::specs::Checks::is_other_indicator))]
+fn is_other_indicator(s: Submission, e: Entry) -> bool
+    ensures { result ≡ is_other_indicator s (Some e) }
 {
-    match sameday {
-        Slot::Read(e) => !(e.indicator == s.indicator),
-        Slot::Empty => false,
-    }
+    e.indicator != s.indicator
 }
 
-// The number of the first rule broken, or 0 where no read of that day stands: 11 is any that is left.
-pub(crate) fn same_day_number(s: Submission, sameday: Slot) -> u8
-    ensures { (j : Journal) → sameday ≡ on_day s.day (standing j.entries) → result ≡ first_broken (same_day_rules s j) }
+// Where a read of that day stands, 11 is any that is left.
+#[tactic(auto, unfolding(calls::specs::Checks::same_day_rules, calls::specs::Checks::is_repeat, calls::specs::Checks::is_at_on_day, calls::specs::Checks::is_other_indicator, terms::specs::Refusal::number_of, journal::specs::Journal::is_there))]
+pub(crate) fn check_same_day(journal: &Sound, s: Submission) -> Result<(), Refusal>
+    ensures { number_in result ≡ first_broken (same_day_rules s (journal_of journal.now.area.now)) }
 {
-    if is_repeat(s, sameday) {
-        return Number::REPEAT;
+    let Some(e) = read_on(journal, s.day) else {
+        return Ok(());
+    };
+    if is_repeat(s, e) {
+        return Err(Refusal::Repeat);
     }
-    if is_at_on_day(s, sameday) {
-        return Number::AT;
+    if is_at_on_day(s) {
+        return Err(Refusal::At);
     }
-    if is_other_indicator(s, sameday) {
-        return Number::EH;
+    if is_other_indicator(s, e) {
+        return Err(Refusal::Eh);
     }
-    if is_there(sameday) {
-        return Number::BF;
-    }
-    Number::ACCEPTED
+    Err(Refusal::Bf)
 }

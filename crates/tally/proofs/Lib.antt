@@ -11,6 +11,7 @@ pub mod FirstWith
 pub mod FirstWithout
 pub mod Wants
 pub mod Changes
+pub mod Checked
 pub mod StepOwn
 pub mod StepOther
 pub mod Runs

@@ -1,24 +1,21 @@
 // A report from a tally. It is lent no register, so that it reads no byte of a journal.
 ghost use Rattle.std.specs.Prelude.{◌≡◌};
+ghost use Rattle.terms.specs.Answer.{as_report};
 ghost use Rattle.tally.specs.Tally.{tally_report};
 
-use crate::tally::{Tally, limit_of, tally_number};
+use crate::tally::{Tally, check_tally, limit_of};
 use arithmetic::advance::total;
-use terms::answer::{Report, refuse_report};
-use terms::number::Number;
+use terms::answer::Totals;
+use terms::refusal::Refusal;
 
-pub fn report_tally(t: Tally) -> Report
-    ensures { result ≡ tally_report t }
+pub fn report_tally(t: Tally) -> Result<Totals, Refusal>
+    ensures { as_report result ≡ tally_report t }
 {
-    let number = tally_number(t);
-    if number != Number::ACCEPTED {
-        return refuse_report(number);
-    }
+    check_tally(t)?;
     let flagged = t.flagged as u16;
-    Report {
-        number,
+    Ok(Totals {
         standing: t.standing as u16,
         flagged,
         total: total(limit_of(t.dials), t.last, flagged, t.first),
-    }
+    })
 }

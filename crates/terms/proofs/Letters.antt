@@ -1,28 +1,29 @@
--- The letters that have a bit are the eleven: one test over every byte.
+-- A byte that is read as a type is one of the eleven.
+use Rattle.std.specs.Prelude.{Result, Ok, Err}
+use Rattle.std.specs.Result.{is_ok}
 use mathlib.Core.Path.{◌≡◌, refl, sym}
-use mathlib.Core.Bool.{Bool, true, false, not, ◌&&◌}
-use Prim.Native.Nat.{ℕ, ◌^◌, ◌/◌, ◌%◌, ◌<◌}
-use borrow.Author.Tests.{not-true}
-use lib.Dec.{eqb, leb}
+use mathlib.Core.Bool.{true}
+use Prim.Native.Nat.{ℕ}
+use Rattle.terms.specs.declared.letter.Letter.{Letter}
+use Rattle.terms.specs.declared.letter.Letter.TheVariants as l
+use Rattle.terms.specs.declared.letter.UnknownLetter.{UnknownLetter}
 use Rattle.terms.specs.Letter.{is_known}
-use Rattle.terms.proofs.Below.{all_below, below}
+use Rattle.terms.specs.Letters.{byte_of, Reads}
 
--- the tests of the code
-abbrev pub has_bit : ℕ → Bool
-has_bit l = leb 64 l && (leb l 127 && eqb (54297192 / 2 ^ (l % 64) % 2) 1)
+known : (letter : Letter) → true ≡ is_known (byte_of letter)
+unfolding is_known
+known l.Initial = refl
+known l.Opening = refl
+known l.Final = refl
+known l.Cyclic = refl
+known l.Customer = refl
+known l.Amr = refl
+known l.Transfer = refl
+known l.EstimatedTransfer = refl
+known l.Disconnection = refl
+known l.Reconnection = refl
+known l.End = refl
 
-same : Bool → Bool → Bool
-same true y = y
-same false y = not y
-
-same_is : (x y : Bool) → same x y ≡ true → x ≡ y
-unfolding same
-same_is true y h = sym h
-same_is false y h = sym (not-true y h)
-
-all_same : all_below 256 (λ l. same (has_bit l) (is_known l)) ≡ true
-unfolding all_below same is_known
-all_same = refl
-
-pub bit_of_known : (l : ℕ) → l < 256 → has_bit l ≡ is_known l
-bit_of_known l h = same_is (has_bit l) (is_known l) (below 256 (λ k. same (has_bit k) (is_known k)) all_same l h)
+pub read_known : (byte : ℕ) (r : Result Letter UnknownLetter) → Reads byte r → is_ok r ≡ is_known byte
+read_known byte (Ok letter) is = rw (← is) (known letter)
+read_known byte (Err u) is = sym is

@@ -1,3 +1,4 @@
 pub mod Below
 pub mod Letters
 pub mod Profiles
+pub mod Refusals

@@ -1,8 +1,6 @@
 -- 01, The register: the kinds of entry, the indicator, and the reads that a journal's entries hold. Lists of entries have the newest first.
-use Rattle.std.specs.Prelude.{Bool, true, false, List, [], ◌∷◌, ℕ, zero, suc, eqb}
+use Rattle.std.specs.Prelude.{Bool, true, false, List, [], ◌∷◌, ℕ, zero, suc, eqb, Option, Some, None}
 use Rattle.terms.specs.declared.entry.Entry.{Entry}
-use Rattle.terms.specs.declared.entry.Slot.{Slot}
-use Rattle.terms.specs.declared.entry.Slot.TheVariants.{Read, Empty}
 use Rattle.terms.specs.declared.entry.Recent.{Recent}
 
 -- "Kind 1, meter"; "Kinds 2 standing, 3 withdrawn, 4 held"; 02, 2: "a carry, kind 5"; 02, 4: "Kind 7 stands where kind 1 would"
@@ -53,9 +51,9 @@ those test [] = []
 those test (e ∷ es) = keep_if (test e) e (those test es)
 
 -- 01, Detection: "R0, R-1, R-2: last, second last, third last standing values, where they exist"
-unfoldable pub slot_at : List Entry → ℕ → Slot
-slot_at [] k = Empty
-slot_at (e ∷ es) zero = Read e
+unfoldable pub slot_at : List Entry → ℕ → Option Entry
+slot_at [] k = None
+slot_at (e ∷ es) zero = Some e
 slot_at (e ∷ es) (suc k) = slot_at es k
 
 unfoldable pub recent_of : List Entry → Recent

@@ -1,7 +1,9 @@
 pub mod Letter
 pub mod Entry
 pub mod Number
+pub mod Refusal
 pub mod Answer
 pub mod Rule
 pub mod Profile
 pub mod Tables
+pub mod Letters

@@ -1,10 +1,12 @@
 -- 01, The register and Calls: the papers' own tables, entry by entry. Two numbers exchanged in the definitions and in the code alike would change
 -- every answer and no other statement.
-use Rattle.std.specs.Prelude.{◌≡◌, Bool, true, false, cond, List, [], ◌∷◌, ℕ, zero, suc, pos}
+use Rattle.std.specs.Prelude.{◌≡◌, Bool, true, false, cond, List, [], ◌∷◌, ℕ, zero, suc, pos, Ok, Err}
 use Rattle.terms.specs.declared.entry.Entry.{Entry}
 use Rattle.terms.specs.declared.profile.Profile.TheVariants.{Ordinary, Pseudo}
 use Rattle.terms.specs.Number.{accepted, repeat, misfit, no_meter, damaged, missing, content, date, withdrawn_read, read_at, read_eh, read_bf, back_dated, read_df, indicator_on_opening, no_original, full, read_ee, read_ef, low, high, over_capacity, not_standing, not_last, enrolled, plate, sheet_fault, no_fold, oldest_kept, other_type}
-use Rattle.terms.specs.Answer.{answer, acceptance, refusal, reported, refused_report}
+use Rattle.terms.specs.declared.refusal.Refusal.TheVariants as r
+use Rattle.terms.specs.Refusal.{number_of}
+use Rattle.terms.specs.Answer.{answer, acceptance, refusal, reported, refused_report, as_answer, as_report}
 use Rattle.terms.specs.Entry.{kind_meter, kind_standing, kind_withdrawn, kind_held, kind_carry, kind_pseudo, indicator_not_set, indicator_false, indicator_true, is_standing, is_withdrawn, is_held}
 use Rattle.terms.specs.Letter.{letter_i, letter_o, letter_f, letter_c, letter_u, letter_r, letter_t, letter_s, letter_x, letter_y, letter_e, is_known, is_opening, is_final, is_holdable, is_unchecked}
 use Rattle.terms.specs.Profile.{meter_kind, profile_of, takes}
@@ -57,6 +59,36 @@ pub record TablesHold : Type 0 where
   pub no_fold_27 : no_fold ≡ 27
   pub oldest_kept_28 : oldest_kept ≡ 28
   pub other_type_29 : other_type ≡ 29
+  -- each refusal and its number
+  pub refusal_1 : number_of r.Repeat ≡ 1
+  pub refusal_2 : number_of r.Misfit ≡ 2
+  pub refusal_3 : number_of r.NoMeter ≡ 3
+  pub refusal_4 : number_of r.Damaged ≡ 4
+  pub refusal_5 : number_of r.Missing ≡ 5
+  pub refusal_6 : number_of r.Content ≡ 6
+  pub refusal_7 : number_of r.Date ≡ 7
+  pub refusal_8 : number_of r.Withdrawn ≡ 8
+  pub refusal_9 : number_of r.At ≡ 9
+  pub refusal_10 : number_of r.Eh ≡ 10
+  pub refusal_11 : number_of r.Bf ≡ 11
+  pub refusal_12 : number_of r.BackDated ≡ 12
+  pub refusal_13 : number_of r.Df ≡ 13
+  pub refusal_14 : number_of r.IndicatorOnOpening ≡ 14
+  pub refusal_15 : number_of r.NoOriginal ≡ 15
+  pub refusal_16 : number_of r.Full ≡ 16
+  pub refusal_17 : number_of r.Ee ≡ 17
+  pub refusal_18 : number_of r.Ef ≡ 18
+  pub refusal_19 : number_of r.Low ≡ 19
+  pub refusal_20 : number_of r.High ≡ 20
+  pub refusal_21 : number_of r.Capacity ≡ 21
+  pub refusal_22 : number_of r.NotStanding ≡ 22
+  pub refusal_23 : number_of r.NotLast ≡ 23
+  pub refusal_24 : number_of r.Enrolled ≡ 24
+  pub refusal_25 : number_of r.Plate ≡ 25
+  pub refusal_26 : number_of r.Sheet ≡ 26
+  pub refusal_27 : number_of r.NoFold ≡ 27
+  pub refusal_28 : number_of r.OldestKept ≡ 28
+  pub refusal_29 : number_of r.OtherType ≡ 29
   -- "the number of the first rule broken", and 0 where none is
   pub none_broken : first_broken (rule low false ∷ rule high false ∷ []) ≡ 0
   pub both_broken : first_broken (rule misfit false ∷ rule high true ∷ rule low true ∷ []) ≡ 20
@@ -64,6 +96,11 @@ pub record TablesHold : Type 0 where
   pub accepted_zeros : acceptance ≡ record { number = 0; flag = 0; advance = pos 0 }
   pub answer_fields : answer 0 1 (pos 500) ≡ record { number = 0; flag = 1; advance = pos 500 }
   pub refused_zeros : refusal 26 ≡ record { number = 26; flag = 0; advance = pos 0 }
+  -- what each answer says in numbers
+  pub accepted_answer : as_answer (Ok (record { flag = 1; advance = pos 500 })) ≡ record { number = 0; flag = 1; advance = pos 500 }
+  pub refused_answer : as_answer (Err r.Low) ≡ record { number = 19; flag = 0; advance = pos 0 }
+  pub accepted_report : as_report (Ok (record { standing = 3; flagged = 1; total = pos 400 })) ≡ record { number = 0; standing = 3; flagged = 1; total = pos 400 }
+  pub refused_report_row : as_report (Err r.Damaged) ≡ record { number = 4; standing = 0; flagged = 0; total = pos 0 }
   -- "Report (place) answers number, standing reads, flagged among them, and total"
   pub report_fields : reported 0 3 1 (pos 400) ≡ record { number = 0; standing = 3; flagged = 1; total = pos 400 }
   pub report_zeros : refused_report 3 ≡ record { number = 3; standing = 0; flagged = 0; total = pos 0 }

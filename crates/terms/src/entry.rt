@@ -1,21 +1,14 @@
 // An entry of a journal, and the last standing reads that the rules look at.
 
-// The kind byte of an entry.
-#[derive(Clone, Copy)]
-pub struct Kind;
-
-impl Kind {
-    pub const METER: u8 = 1;
-
-    pub const STANDING: u8 = 2;
-
-    pub const WITHDRAWN: u8 = 3;
-
-    pub const HELD: u8 = 4;
-
-    pub const CARRY: u8 = 5;
-
-    pub const PSEUDO: u8 = 7;
+// What the kind byte of an entry says.
+#[derive(Clone, Copy, Debug, PartialEq, Eq)]
+pub enum Kind {
+    Meter = 1,
+    Standing = 2,
+    Withdrawn = 3,
+    Held = 4,
+    Carry = 5,
+    Pseudo = 7,
 }
 
 // A standing, withdrawn or held read as the journal stores it: the kind and its body.
@@ -31,17 +24,30 @@ pub struct Entry {
     pub flag: u8,
 }
 
-// A read that may or may not exist.
-#[derive(Clone, Copy)]
-pub enum Slot {
-    Read(Entry),
-    Empty,
+impl Entry {
+    // The bytes of no entry.
+    pub const ZERO: Entry = Entry {
+        kind: 0,
+        day: 0,
+        value: 0,
+        letter: 0,
+        indicator: 0,
+        flag: 0,
+    };
 }
 
 // R0, R-1 and R-2: the last, second last and third last standing reads, where they exist.
 #[derive(Clone, Copy)]
 pub struct Recent {
-    pub last: Slot,
-    pub second: Slot,
-    pub third: Slot,
+    pub last: Option<Entry>,
+    pub second: Option<Entry>,
+    pub third: Option<Entry>,
+}
+
+impl Recent {
+    pub const NONE: Recent = Recent {
+        last: None,
+        second: None,
+        third: None,
+    };
 }

@@ -1,79 +1,83 @@
 // The types of a read, each an ASCII letter, and the classes that the rules tell apart.
 ghost use Rattle.std.specs.Prelude.{◌≡◌};
 ghost use Rattle.terms.specs.Letter.{is_known, is_opening, is_holdable, is_unchecked};
+ghost use Rattle.terms.specs.Letters.{Reads};
 
-#[derive(Clone, Copy)]
-pub struct Letter;
+// Each has its letter.
+#[derive(Clone, Copy, Debug, PartialEq, Eq)]
+pub enum Letter {
+    Initial = b'I' as isize,
+    Opening = b'O' as isize,
+    Final = b'F' as isize,
+    Cyclic = b'C' as isize,
+    Customer = b'U' as isize,
+    Amr = b'R' as isize,
+    Transfer = b'T' as isize,
+    EstimatedTransfer = b'S' as isize,
+    Disconnection = b'X' as isize,
+    Reconnection = b'Y' as isize,
+    End = b'E' as isize,
+}
 
-impl Letter {
-    pub const INITIAL: u8 = b'I';
+// A byte that is no type's letter.
+#[derive(Clone, Copy, Debug, PartialEq, Eq)]
+pub struct UnknownLetter(pub u8);
 
-    pub const OPENING: u8 = b'O';
+impl TryFrom<u8> for Letter {
+    type Error = UnknownLetter;
 
-    pub const FINAL: u8 = b'F';
+    ghost try_from_gives = { Reads };
 
-    pub const CYCLIC: u8 = b'C';
-
-    pub const CUSTOMER: u8 = b'U';
-
-    pub const AMR: u8 = b'R';
-
-    pub const TRANSFER: u8 = b'T';
-
-    pub const ESTIMATED_TRANSFER: u8 = b'S';
-
-    pub const DISCONNECTION: u8 = b'X';
-
-    pub const RECONNECTION: u8 = b'Y';
-
-    pub const END: u8 = b'E';
+    fn try_from(byte: u8) -> Result<Letter, UnknownLetter> {
+        match byte {
+            b'I' => Ok(Letter::Initial),
+            b'O' => Ok(Letter::Opening),
+            b'F' => Ok(Letter::Final),
+            b'C' => Ok(Letter::Cyclic),
+            b'U' => Ok(Letter::Customer),
+            b'R' => Ok(Letter::Amr),
+            b'T' => Ok(Letter::Transfer),
+            b'S' => Ok(Letter::EstimatedTransfer),
+            b'X' => Ok(Letter::Disconnection),
+            b'Y' => Ok(Letter::Reconnection),
+            b'E' => Ok(Letter::End),
+            _ => Err(UnknownLetter(byte)),
+        }
+    }
 }
 
 // I or O: a read that opens a journal.
 pub fn is_opening(letter: u8) -> bool
     ensures { result ≡ is_opening letter }
 {
-    (letter == Letter::INITIAL) | (letter == Letter::OPENING)
+    (letter == Letter::Initial as u8) | (letter == Letter::Opening as u8)
 }
 
 // C U R T S F X or E: a read that may be held.
 pub fn is_holdable(letter: u8) -> bool
     ensures { result ≡ is_holdable letter }
 {
-    (letter == Letter::CYCLIC)
-        | ((letter == Letter::CUSTOMER)
-            | ((letter == Letter::AMR)
-                | ((letter == Letter::TRANSFER)
-                    | ((letter == Letter::ESTIMATED_TRANSFER)
-                        | ((letter == Letter::FINAL)
-                            | ((letter == Letter::DISCONNECTION) | (letter == Letter::END)))))))
+    (letter == Letter::Cyclic as u8)
+        | ((letter == Letter::Customer as u8)
+            | ((letter == Letter::Amr as u8)
+                | ((letter == Letter::Transfer as u8)
+                    | ((letter == Letter::EstimatedTransfer as u8)
+                        | ((letter == Letter::Final as u8)
+                            | ((letter == Letter::Disconnection as u8)
+                                | (letter == Letter::End as u8)))))))
 }
 
 // I, O or Y: a read that has no volume check.
 pub fn is_unchecked(letter: u8) -> bool
     ensures { result ≡ is_unchecked letter }
 {
-    (letter == Letter::INITIAL) | ((letter == Letter::OPENING) | (letter == Letter::RECONNECTION))
-}
-
-#[derive(Clone, Copy)]
-struct Letters;
-
-impl Letters {
-    // A bit for each letter from 64 to 127: C, E, F, I, O, R, S, T, U, X and Y.
-    const KNOWN: u64 = 54297192;
+    (letter == Letter::Initial as u8)
+        | ((letter == Letter::Opening as u8) | (letter == Letter::Reconnection as u8))
 }
 
 // One of the eleven types.
 pub fn is_known(letter: u8) -> bool
     ensures { result ≡ is_known letter }
 {
-    if letter < 64 {
-        return false;
-    }
-    if 127 < letter {
-        return false;
-    }
-    let bit = letter % 64;
-    (Letters::KNOWN >> bit) % 2 == 1
+    Letter::try_from(letter).is_ok()
 }

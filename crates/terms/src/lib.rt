@@ -4,7 +4,7 @@
 pub mod answer;
 pub mod entry;
 pub mod letter;
-pub mod number;
 pub mod profile;
+pub mod refusal;
 pub mod submission;
 pub mod tables;

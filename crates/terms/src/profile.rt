@@ -18,8 +18,8 @@ pub fn meter_kind(profile: Profile) -> u8
     ensures { result ≡ meter_kind profile }
 {
     match profile {
-        Profile::Ordinary => Kind::METER,
-        Profile::Pseudo => Kind::PSEUDO,
+        Profile::Ordinary => Kind::Meter as u8,
+        Profile::Pseudo => Kind::Pseudo as u8,
     }
 }
 
@@ -27,7 +27,7 @@ pub fn meter_kind(profile: Profile) -> u8
 pub fn profile_of(kind: u8) -> Profile
     ensures { result ≡ profile_of kind }
 {
-    if kind == Kind::PSEUDO {
+    if kind == Kind::Pseudo as u8 {
         return Profile::Pseudo;
     }
     Profile::Ordinary
@@ -39,6 +39,6 @@ pub fn takes(profile: Profile, letter: u8) -> bool
 {
     match profile {
         Profile::Ordinary => is_known(letter),
-        Profile::Pseudo => (letter == Letter::INITIAL) | (letter == Letter::FINAL),
+        Profile::Pseudo => (letter == Letter::Initial as u8) | (letter == Letter::Final as u8),
     }
 }

@@ -1,15 +1,11 @@
 // What a terminal submits.
 
-// The rollover indicator.
-#[derive(Clone, Copy)]
-pub struct Indicator;
-
-impl Indicator {
-    pub const NOT_SET: u8 = 0;
-
-    pub const FALSE: u8 = 1;
-
-    pub const TRUE: u8 = 2;
+// What the rollover indicator says.
+#[derive(Clone, Copy, Debug, PartialEq, Eq)]
+pub enum Indicator {
+    NotSet = 0,
+    False = 1,
+    True = 2,
 }
 
 // The arguments of a submission besides its place.

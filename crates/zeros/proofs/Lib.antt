@@ -1,1 +1,1 @@
-mod Blocks
+mod Zero

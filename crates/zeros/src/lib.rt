@@ -1,102 +1,65 @@
 // Bytes that are zero to the end, as an area with no meter is, and an area after its journal.
 #![tactic(auto)]
 
-ghost use Rattle.std.specs.Prelude.{◌≡◌, ◌+◌, ◌≤◌, ◌<◌, length, drop};
+ghost use Rattle.std.specs.Prelude.{◌≡◌, ◌+◌, ◌≤◌, ◌<◌, ◌%◌, length, drop, eqb};
 ghost use Rattle.register.specs.Area.{all_zero};
 
-use crate::lanes::{Lanes, block_at, eight_at, four_at};
-
-mod lanes;
-
-#[derive(Clone, Copy)]
-struct Block;
-
-impl Block {
-    const BYTES: usize = 128;
+// The bits of whole fours of bytes, which are taken sixteen at a time while there are as many.
+fn bits_of(bytes: &[u8]) -> u128
+    requires { length bytes.now % 4 ≡ 0 }
+    ensures { eqb result 0 ≡ all_zero bytes.now }
+{
+    let (wide, rest) = bytes.as_chunks::<16>();
+    let (narrow, _) = rest.as_chunks::<4>();
+    let bits = wide
+        .iter()
+        .fold(0, |bits, word| bits | u128::from_le_bytes(*word));
+    narrow.iter().fold(
+        bits,
+        |bits, word| bits | u128::from(u32::from_le_bytes(*word)),
+    )
 }
 
-// Every byte from a place on is zero: one by one, for few bytes.
-fn few_zero_from(bytes: &[u8], from: usize) -> bool
+// Every byte from one on is zero: N of them at a time up to the last N, which come first, since those before may overlap them.
+#[inline]
+fn is_zero_by<const N: usize>(bytes: &[u8], from: usize) -> bool
+    requires fours { N % 4 ≡ 0 }
+    requires some { 0 < N }
+    requires room { from + N ≤ length bytes.now }
     ensures { result ≡ all_zero (drop from bytes.now) }
 {
-    let mut zero = true;
-    let mut i = from;
-    while i < bytes.len() {
-        zero = zero & (bytes[i] == 0);
-        i += 1;
-    }
-    zero
-}
-
-// Blocks from a byte on, up to the last block, which comes first: the one before it may overlap it.
-fn blocks_zero_from(bytes: &[u8], from: usize, last: usize) -> bool
-    requires { (from ≤ last) × (last + 128 ≡ length bytes.now) }
-    ensures { result ≡ all_zero (drop from bytes.now) }
-{
-    let mut lanes = block_at(Lanes { low: 0, high: 0 }, bytes, last);
-    let mut i = from;
-    while i < last {
-        lanes = block_at(lanes, bytes, i);
-        i += Block::BYTES;
-    }
-    (lanes.low | lanes.high) == 0
-}
-
-// Eight bytes at a time from one on, up to the last eight, which come first: those before them may overlap them.
-fn eights_zero_from(bytes: &[u8], from: usize, last: usize) -> bool
-    requires { (from ≤ last) × (last + 8 ≡ length bytes.now) }
-    ensures { result ≡ all_zero (drop from bytes.now) }
-{
-    let mut bits = eight_at(bytes, last);
-    let mut i = from;
-    while i < last {
-        bits |= eight_at(bytes, i);
-        i += 8;
+    let last = bytes.len() - N;
+    let mut bits = bits_of(&bytes[last..]);
+    for i in (from..last).step_by(N) {
+        bits |= bits_of(&bytes[i..i + N]);
     }
     bits == 0
-}
-
-// Four bytes to seven: the first four and the last four, which overlap.
-fn fours_zero_from(bytes: &[u8], from: usize, last: usize) -> bool
-    requires { (from ≤ last) × (last < from + 4) × (last + 4 ≡ length bytes.now) }
-    ensures { result ≡ all_zero (drop from bytes.now) }
-{
-    (four_at(bytes, from) | four_at(bytes, last)) == 0
-}
-
-// Fewer bytes than a block, as a journal that is nearly full leaves.
-fn rest_zero_from(bytes: &[u8], from: usize) -> bool
-    requires { 8 ≤ length bytes.now }
-    ensures { result ≡ all_zero (drop from bytes.now) }
-{
-    let eight = bytes.len() - 8;
-    if from <= eight {
-        return eights_zero_from(bytes, from, eight);
-    }
-    let four = bytes.len() - 4;
-    if from <= four {
-        return fours_zero_from(bytes, from, four);
-    }
-    few_zero_from(bytes, from)
 }
 
 // Every byte from a place on is zero.
 pub fn is_zero_from(bytes: &[u8], from: usize) -> bool
     ensures { result ≡ all_zero (drop from bytes.now) }
 {
-    if bytes.len() < Block::BYTES {
-        return few_zero_from(bytes, from);
+    if bytes.len() < from {
+        return true;
     }
-    let last = bytes.len() - Block::BYTES;
-    if last < from {
-        return rest_zero_from(bytes, from);
+    let left = bytes.len() - from;
+    if left >= 256 {
+        is_zero_by::<256>(bytes, from)
+    } else if left >= 64 {
+        is_zero_by::<64>(bytes, from)
+    } else if left >= 16 {
+        is_zero_by::<16>(bytes, from)
+    } else if left >= 4 {
+        is_zero_by::<4>(bytes, from)
+    } else {
+        is_zero(&bytes[from..])
     }
-    blocks_zero_from(bytes, from, last)
 }
 
 // Every byte is zero. One by one, since the compiler takes sixteen at a time by itself where it knows how many there are, as of an area.
 pub fn is_zero(bytes: &[u8]) -> bool
     ensures { result ≡ all_zero bytes.now }
 {
-    few_zero_from(bytes, 0)
+    bytes.iter().fold(0, |bits, b| bits | *b) == 0
 }

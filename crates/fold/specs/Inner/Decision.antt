@@ -1,24 +1,11 @@
--- The decision on a fold, apart from the writing.
-use Rattle.std.specs.Prelude.{◌≡◌, cond, List, ℕ, eqb}
-use Rattle.terms.specs.Number.{accepted}
+-- What the decision on a fold answers: the journal that the call is to change, or why it may not be changed, by the number of the fold's checks.
+use Rattle.std.specs.Prelude.{◌≡◌, List, ℕ, Result, IfOk}
+use Rattle.terms.specs.declared.refusal.Refusal.{Refusal}
+use Rattle.terms.specs.Refusal.{number_in}
 use Rattle.terms.specs.Rule.{first_broken}
-use Rattle.journal.specs.Journal.{journal_of}
-use Rattle.judge.specs.Inner.Judged.{summary_of}
-use Rattle.calls.specs.declared.call.Reply.TheVariants.{Answered}
 use Rattle.calls.specs.Checks.{fold_checks}
-use Rattle.calls.specs.Calls.{fold_in}
-use Rattle.fold.specs.declared.decide.Decided.{Decided}
-use Rattle.fold.specs.declared.decide.Decided.TheVariants.{Refused, Taken}
-use Rattle.fold.specs.Decision.{decided_answer}
+use Rattle.fold.specs.declared.foldable.Foldable.{Foldable}
 
--- a refusal, or what is counted of the journal that the call is to change
-unfoldable pub fold_decided : List ℕ → Decided
-fold_decided area =
-    cond (eqb (first_broken (fold_checks area)) accepted)
-    (Taken (summary_of (journal_of area)))
-    (Refused (first_broken (fold_checks area)))
-
--- what the decision answers: what is to be done, and with it the answer of the call
-pub record Decides (area : List ℕ) (d : Decided) : Type 0 where
-  pub decision_is : d ≡ fold_decided area
-  pub answer_is : Answered (decided_answer d) ≡ (fold_in area).reply
+pub record Decides (area : List ℕ) (d : Result Foldable Refusal) : Type 0 where
+  pub number_is : number_in d ≡ first_broken (fold_checks area)
+  pub area_is : IfOk d (λ f. f.journal.area.now ≡ area)

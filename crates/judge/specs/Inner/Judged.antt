@@ -1,30 +1,24 @@
 -- What an area is, with what is counted of a sound one's entries.
-use Rattle.std.specs.Prelude.{◌≡◌, Bool, true, false, not, ◌&&◌, cond, List, ℕ, eqb, length, drop}
+use Rattle.std.specs.Prelude.{◌≡◌, Bool, true, not, ◌&&◌, cond, List, ℕ, eqb, length, drop, Option, Some, None, Result, Ok, Err}
 use Rattle.arithmetic.specs.Powers.{ten_to}
 use Rattle.terms.specs.declared.entry.Entry.{Entry}
-use Rattle.terms.specs.declared.entry.Slot.{Slot}
-use Rattle.terms.specs.declared.entry.Slot.TheVariants.{Read, Empty}
 use Rattle.terms.specs.Entry.{those, slot_at}
-use Rattle.terms.specs.Rule.{first_broken}
 use Rattle.register.specs.Area.{area_bytes, all_zero}
 use Rattle.register.specs.declared.head.Head.{Head}
 use Rattle.register.specs.Entries.{entry_start}
 use Rattle.register.specs.Head.{most_entries}
 use Rattle.judge.specs.declared.area.Counts.{Counts}
 use Rattle.judge.specs.declared.area.Summary.{Summary}
-use Rattle.judge.specs.declared.area.Judged.{Judged}
-use Rattle.judge.specs.declared.area.Judged.TheVariants.{Zero, Damaged, Sound}
-use Rattle.judge.specs.declared.area.Judgement.{Judgement}
-use Rattle.journal.specs.Journal.{Journal, journal_of, entries_to, count_from, standing, withdrawn, kept, is_flagged, first_value, newest_at}
-use Rattle.journal.specs.Numbers.{area_rules}
-use Rattle.judge.specs.Numbers.{judged_number}
-use Rattle.journal.specs.Sound.{is_sound, are_sound, any, has_read, is_final_read}
+use Rattle.terms.specs.declared.refusal.Refusal.{Refusal}
+use Rattle.terms.specs.declared.refusal.Refusal.TheVariants.{NoMeter, Damaged}
+use Rattle.journal.specs.Journal.{Journal, journal_of, entries_to, count_from, standing, kept, is_flagged, first_value, newest_at}
+use Rattle.journal.specs.Sound.{is_sound, are_sound, any, is_final_read}
 use Rattle.judge.specs.Inner.Run.{last_day}
 
 -- the value of a read, and 0 where there is none
-unfoldable pub value_of : Slot → ℕ
-value_of (Read e) = e.value
-value_of Empty = 0
+unfoldable pub value_of : Option Entry → ℕ
+value_of (Some e) = e.value
+value_of None = 0
 
 unfoldable pub counts_of : List Entry → Counts
 counts_of es =
@@ -48,12 +42,12 @@ summary_of j =
       ended = any is_final_read (standing j.entries);
     }
 
--- an area is all zero, sound or damaged; what is lent as one and is not 512 bytes long is no journal
-unfoldable pub judged : List ℕ → Judged
+-- an area is sound, or all zero or damaged; what is lent as one and is not 512 bytes long is no journal
+unfoldable pub judged : List ℕ → Result Summary Refusal
 judged area =
     cond (not (eqb (length area) area_bytes))
-    Damaged
-    (cond (all_zero area) Zero (cond (is_sound area) (Sound (summary_of (journal_of area))) Damaged))
+    (Err Damaged)
+    (cond (all_zero area) (Err NoMeter) (cond (is_sound area) (Ok (summary_of (journal_of area))) (Err Damaged)))
 
 -- a body that follows a head: how many entries it has, and whether they are sound and zeros follow them
 abbrev pub count_in : Head → List ℕ → ℕ
@@ -64,27 +58,11 @@ is_whole head body =
     all_zero (drop (entry_start (count_in head body)) body)
     && are_sound head (entries_to (count_in head body) body)
 
-unfoldable pub judged_body : Head → List ℕ → Judged
+unfoldable pub judged_body : Head → List ℕ → Result Summary Refusal
 judged_body head body =
     cond (is_whole head body)
-    (Sound (summary_of (record { head = head; entries = entries_to (count_in head body) body })))
-    Damaged
-
--- what a judgement answers: what was found, and with it the number of the area
-pub record Judges (area : List ℕ) (found : Judged) : Type 0 where
-  pub found_is : found ≡ judged area
-  pub number_is : length area ≡ area_bytes → judged_number found ≡ first_broken (area_rules area)
-
--- whether a read that is asked for is among the withdrawn ones of a sound journal
-unfoldable pub among_in : Judged → List ℕ → ℕ → ℕ → Bool
-among_in Zero body day value = false
-among_in Damaged body day value = false
-among_in (Sound t) body day value = any (has_read day value) (withdrawn (entries_to t.entries body))
-
--- what was found, and the answer about a read
-pub record Answers (found : Judged) (body : List ℕ) (day value : ℕ) (r : Judgement) : Type 0 where
-  pub found_is : r.found ≡ found
-  pub withdrawn_is : r.withdrawn ≡ among_in found body day value
+    (Ok (summary_of (record { head = head; entries = entries_to (count_in head body) body })))
+    (Err Damaged)
 
 -- an area is sound, and this is what was counted of it
 pub record Counted (area : List ℕ) (t : Summary) : Type 0 where

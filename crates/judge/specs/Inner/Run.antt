@@ -1,9 +1,10 @@
 -- What is kept of some of the entries.
-use Rattle.std.specs.Prelude.{List, ℕ, length}
+use Rattle.std.specs.Prelude.{◌≡◌, List, ℕ, ◌≤◌, length}
 use Rattle.terms.specs.declared.entry.Entry.{Entry}
 use Rattle.terms.specs.Entry.{those, slot_at}
+use Rattle.judge.specs.declared.body.Body.{Body}
 use Rattle.judge.specs.declared.run.Run.{Run}
-use Rattle.journal.specs.Journal.{standing, is_flagged, first_value, newest_at, day_of}
+use Rattle.journal.specs.Journal.{entries_to, standing, is_flagged, first_value, newest_at, day_of}
 
 -- the day of the last standing read, and 0 where none stands
 abbrev pub last_day : List Entry → ℕ
@@ -20,14 +21,15 @@ run_of es =
       newest = newest_at es;
     }
 
+-- the first k entries of a body
+abbrev pub firsts : Body → ℕ → List Entry
+firsts b k = entries_to k b.bytes.now
+
+-- a run over the first entries of a body
+pub record IsRun (b : Body) (r : Run) : Type 0 where
+  pub few : r.count ≤ b.most
+  pub run_is : r ≡ run_of (firsts b r.count)
+
 -- a run after plain entries alone, to a count
-unfoldable pub ran_to : Run → ℕ → ℕ → ℕ → ℕ → Run
-ran_to from count day newest standing =
-    record {
-      first = from.first;
-      day = day;
-      count = count;
-      standing = standing;
-      flagged = from.flagged;
-      newest = newest;
-    }
+abbrev pub ran_to : Run → ℕ → ℕ → ℕ → ℕ → Run
+ran_to from count day newest standing = record from { day = day; count = count; standing = standing; newest = newest }

@@ -2,12 +2,13 @@
 use mathlib.Core.Path.{refl}
 use Rattle.arithmetic.specs.Powers.{ten_to}
 use Rattle.arithmetic.specs.Advance.{advance_of}
+use Rattle.terms.specs.Refusal.{number_of}
 use Rattle.terms.specs.Entry.{is_standing, is_withdrawn, is_held, those, slot_at, recent_of}
 use Rattle.terms.specs.Letter.{is_known, is_opening, is_final, is_unchecked}
 use Rattle.terms.specs.Profile.{takes}
 use Rattle.rules.specs.Settings.{step_back}
 use Rattle.rules.specs.Detection.{is_plain, scaled_of, is_small_step, is_not_rollover, is_near_turn, is_like_rate, is_small_part, is_small_turn, is_small_advance, is_rollover, detected}
-use Rattle.rules.specs.Indicator.{indicated, indicated_number, indicated_flag}
+use Rattle.rules.specs.Indicator.{indicated, indicated_flag}
 use Rattle.rules.specs.Volume.{advance_over, has_volume_check, has_threshold, compared_with, compared, compared_number, is_low_volume, is_high_volume, is_over_capacity}
 use Rattle.register.specs.Head.{no_carry, most_entries}
 use Rattle.journal.specs.Journal.{held_of, is_there, on_day}
@@ -16,7 +17,7 @@ use Rattle.calls.specs.Checks.{is_missing, is_bad_content, is_other_type, is_bad
 use Rattle.calls.proofs.claims.order_examples_hold.Goals as goal
 
 pub returns : goal.returns
-unfolding ten_to advance_of is_standing is_withdrawn is_held those slot_at recent_of is_known is_opening is_final is_unchecked takes step_back is_plain scaled_of is_small_step is_not_rollover is_near_turn is_like_rate is_small_part is_small_turn is_small_advance is_rollover detected indicated indicated_number indicated_flag advance_over has_volume_check has_threshold compared_with compared compared_number is_low_volume is_high_volume is_over_capacity no_carry most_entries held_of is_there on_day any exists has_read is_missing is_bad_content is_other_type is_bad_date is_withdrawn_read is_repeat is_at_on_day is_other_indicator is_back_dated is_unopened is_at_later is_opening_indicated is_held_equal is_unheld_reread is_full is_denied is_unclear indicated_in content_rules same_day_rules order_rules indicator_rules volume_rules submit_rules
+unfolding ten_to advance_of is_standing is_withdrawn is_held those slot_at recent_of is_known is_opening is_final is_unchecked takes step_back is_plain scaled_of is_small_step is_not_rollover is_near_turn is_like_rate is_small_part is_small_turn is_small_advance is_rollover detected indicated number_of indicated_flag advance_over has_volume_check has_threshold compared_with compared compared_number is_low_volume is_high_volume is_over_capacity no_carry most_entries held_of is_there on_day any exists has_read is_missing is_bad_content is_other_type is_bad_date is_withdrawn_read is_repeat is_at_on_day is_other_indicator is_back_dated is_unopened is_at_later is_opening_indicated is_held_equal is_unheld_reread is_full is_denied is_unclear indicated_in content_rules same_day_rules order_rules indicator_rules volume_rules submit_rules
 returns c =
     record {
       missing_before_content = refl;

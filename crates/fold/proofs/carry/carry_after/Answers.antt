@@ -43,25 +43,25 @@ module _ (area : List ℕ) (t : Summary) (c : Counted area t) where
     unfolding summary_of counts_of flagged_of
     flags_fit = rw (c.summary, is) (flags_apart (standing (journal_of area).entries))
 
-    carry_is : {flags first : ℕ} → flags ≡ flags_in kept → first ≡ first_in (journal_of area).head (standing (journal_of area).entries) → record { first = first; folded = t.head.carry.folded + (t.counts.standing - reads_kept); flagged = t.head.carry.flagged + (t.counts.flagged - flags) } ≡ carry_after (journal_of area)
+    carry_is : {flags first folded flagged : ℕ} → flags ≡ flags_in kept → first ≡ first_in (journal_of area).head (standing (journal_of area).entries) → folded ≡ t.counts.standing - reads_kept → flagged ≡ t.counts.flagged - flags → record { first = first; folded = t.head.carry.folded + folded; flagged = t.head.carry.flagged + flagged } ≡ carry_after (journal_of area)
     unfolding carry_after flagged_in summary_of counts_of
-    carry_is {flags} {first} f v =
-        let folded : t.head.carry.folded + (t.counts.standing - reads_kept) ≡ (journal_of area).head.carry.folded + (length (standing (journal_of area).entries) - reads_kept) = rw c.summary in
-        let more : t.counts.flagged - flags ≡ flagged_of (drop reads_kept (standing (journal_of area).entries)) = omega (arith, f, flags_fit) in
+    carry_is {flags} {first} {folded} {flagged} f v n m =
+        let more_folded : t.head.carry.folded + folded ≡ (journal_of area).head.carry.folded + (length (standing (journal_of area).entries) - reads_kept) = rw (n, c.summary) in
+        let more : flagged ≡ flagged_of (drop reads_kept (standing (journal_of area).entries)) = omega (arith, f, m, flags_fit) in
         let before : t.head.carry.flagged ≡ (journal_of area).head.carry.flagged = rw c.summary in
-        cc (v, folded, more, before)
+        cc (v, more_folded, more, before)
 
 pub overflow_sub-folded : goal.overflow_sub-folded
-overflow_sub-folded c = omega (arith, many _ _ c.requires.0 c.requires.2)
+overflow_sub-folded c = omega (arith, many _ _ c.args.journal.now.counted c.requires.may_fold)
 
 pub overflow_sub-flagged : goal.overflow_sub-flagged
-overflow_sub-flagged c = omega (arith, flags_fit c.args.area.now c.args.t c.requires.0 c.args.kept c.requires.1, c.flags_in.ensures)
+overflow_sub-flagged c = omega (arith, flags_fit _ _ c.args.journal.now.counted c.args.kept c.requires.kept_is, c.flags_in.ensures)
 
 pub overflow_add-result : goal.overflow_add-result
-overflow_add-result c = omega (arith, (counts_fit _ _ c.requires.0).0)
+overflow_add-result c = omega (arith, (counts_fit _ _ c.args.journal.now.counted).0)
 
 pub overflow_add-result-2 : goal.overflow_add-result-2
-overflow_add-result-2 c = omega (arith, (counts_fit _ _ c.requires.0).1)
+overflow_add-result-2 c = omega (arith, (counts_fit _ _ c.args.journal.now.counted).1)
 
 pub returns : goal.returns
-returns c = let flags = c.flags_in.ensures in carry_is c.args.area.now c.args.t c.requires.0 c.args.kept c.requires.1 flags (c.first.ensures _ c.requires.0.summary)
+returns c = carry_is _ _ c.args.journal.now.counted c.args.kept c.requires.kept_is c.flags_in.ensures c.first.ensures c.from.ensures c.from-2.ensures

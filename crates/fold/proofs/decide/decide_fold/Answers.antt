@@ -1,34 +1,25 @@
 -- By what the area is judged to be, and for a sound journal by whether it may be folded.
-use mathlib.Core.Path.{◌≡◌, refl, sym, ap, ◌∙◌}
-use mathlib.Core.List.{List}
-use Prim.Native.Nat.{ℕ}
-use Rattle.judge.specs.declared.area.Judged.{Judged}
-use Rattle.judge.specs.declared.area.Judged.TheVariants.{Sound}
-use Rattle.judge.specs.declared.area.Summary.{Summary}
-use Rattle.judge.specs.Numbers.{judged_number}
-use Rattle.judge.specs.Inner.Judged.{Judges}
-use Rattle.judge.proofs.Verdicts.{judged_counted}
-use Rattle.fold.proofs.Decided.{refuses_area, refuses_fold, takes}
+use mathlib.Core.Path.{sym, ◌∙◌}
+use Rattle.terms.specs.Refusal.{number_of}
+use Rattle.terms.proofs.Refusals.{passed_on}
+use Rattle.fold.proofs.Decided.{area_refused, by_journal}
 use Rattle.fold.proofs.decide.decide_fold.Goals as goal
 
--- a sound area, and what was counted of it
-judges : {area : List ℕ} {found : Judged} {t : Summary} → Judges area found → found ≡ Sound t → Judges area (Sound t)
-judges judged is = rw is at judged
+pub returns-in_err-judged : goal.returns-in_err-judged
+returns-in_err-judged c =
+    rw (passed_on _ c.from_residual.ensures.1)
+    (record { number_is = area_refused c.args.area.now c.requires c.in_err-judged.ensures; area_is = tt })
 
 pub returns-then-is_no_fold : goal.returns-then-is_no_fold
+unfolding number_of
 returns-then-is_no_fold c =
-    let j = judges c.judge_area-judgement.ensures.0 c.in-Sound.is in
-    refuses_fold c.args.area.now c.requires _ j (sym (c.is_no_fold.ensures _ (judged_counted _ j).summary) ∙ c.if-is_no_fold.true)
+    let may = sym c.is_no_fold.ensures ∙ c.if-is_no_fold.true in
+    record { number_is = rw (← by_journal c.args.area.now c.requires c.in_ok-judged.ensures, ← c.in_ok-judged.ensures.area_is, may); area_is = tt }
 
-pub returns-in-Zero : goal.returns-in-Zero
-unfolding judged_number
-returns-in-Zero c = refuses_area c.args.area.now c.requires c.judge_area-judgement.ensures.0 _ (ap judged_number c.in-Zero.is) refl
-
-pub returns-in-Damaged : goal.returns-in-Damaged
-unfolding judged_number
-returns-in-Damaged c = refuses_area c.args.area.now c.requires c.judge_area-judgement.ensures.0 _ (ap judged_number c.in-Damaged.is) refl
-
-pub returns-else-is_no_fold : goal.returns-else-is_no_fold
-returns-else-is_no_fold c =
-    let j = judges c.judge_area-judgement.ensures.0 c.in-Sound.is in
-    takes c.args.area.now c.requires _ j (sym (c.is_no_fold.ensures _ (judged_counted _ j).summary) ∙ c.if-is_no_fold.false)
+pub returns : goal.returns
+returns c =
+    let may = sym c.is_no_fold.ensures ∙ c.if-is_no_fold.false in
+    record {
+      number_is = rw (← by_journal c.args.area.now c.requires c.in_ok-judged.ensures, ← c.in_ok-judged.ensures.area_is, may);
+      area_is = c.in_ok-judged.ensures.area_is;
+    }

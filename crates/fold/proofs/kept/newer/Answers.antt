@@ -1,10 +1,10 @@
 -- A standing entry is the last, and the others move on.
+use Rattle.std.specs.Prelude.{Some}
 use mathlib.Core.Path.{◌≡◌, sym, ◌∙◌}
 use mathlib.Core.Bool.{true, false}
 use mathlib.Core.List.{List, ◌∷◌}
 use Rattle.terms.specs.declared.entry.Entry.{Entry}
 use Rattle.terms.specs.declared.entry.Recent.{Recent}
-use Rattle.terms.specs.declared.entry.Slot.TheVariants.{Read}
 use Rattle.terms.specs.Entry.{is_standing, those, slot_at, recent_of}
 use Rattle.journal.specs.Journal.{standing}
 use Rattle.fold.proofs.kept.newer.Goals as goal
@@ -14,7 +14,7 @@ module _ (e : Entry) {kept : Recent} where
   unfolding those
   stays_as h es is = rw h is
 
-  moves_on : is_standing e ≡ true → (es : List Entry) → kept ≡ recent_of (standing es) → record { last = Read e; second = kept.last; third = kept.second } ≡ recent_of (standing (e ∷ es))
+  moves_on : is_standing e ≡ true → (es : List Entry) → kept ≡ recent_of (standing es) → record { last = Some e; second = kept.last; third = kept.second } ≡ recent_of (standing (e ∷ es))
   unfolding those recent_of slot_at
   moves_on h es is = rw (h, is)
 

@@ -7,12 +7,10 @@ use borrow.Author.Tests.{ne_eqb}
 use lib.ListN.{get_or}
 use Rattle.register.specs.Area.{all_zero}
 use Rattle.terms.proofs.Profiles.{some_kind}
-use Rattle.register.specs.Head.{head_of, body_of}
+use Rattle.register.specs.Head.{head_of}
 use Rattle.journal.specs.Sound.{is_head, is_sound}
-use Rattle.judge.specs.declared.area.Judgement.{Judgement}
-use Rattle.judge.specs.Inner.Judged.{judged, Judges, Answers}
-use Rattle.judge.proofs.Numbers.{judges}
-use Rattle.judge.proofs.Verdicts.{damaged_answers, zero_answers}
+use Rattle.judge.specs.Inner.Judged.{judged}
+use Rattle.judge.proofs.Numbers.{refused}
 use Rattle.judge.proofs.area.judge_area.Goals as goal
 
 first_not_zero : (area : List ℕ) → (get_or area 0 0 ≡ 0 → ⊥) → all_zero area ≡ false
@@ -24,25 +22,18 @@ first_zero : (area : List ℕ) → get_or area 0 0 ≡ 0 → is_sound area ≡ f
 unfolding is_sound is_head
 first_zero area h = rw (h, some_kind (head_of area).profile)
 
-answered : {area : List ℕ} {day value : ℕ} {r : Judgement} → Answers (judged area) (body_of area) day value r → Judges area r.found × Answers (judged area) (body_of area) day value r
-answered {area} is = (judges area is.found_is, is)
-
 pub returns-then-area-ne-AREA_BYTES : goal.returns-then-area-ne-AREA_BYTES
 unfolding judged
-returns-then-area-ne-AREA_BYTES c = answered (damaged_answers c.no_journal.ensures (rw (ne_eqb _ _ c.if-area-ne-AREA_BYTES.true)))
+returns-then-area-ne-AREA_BYTES c = refused _ (rw (ne_eqb _ _ c.if-area-ne-AREA_BYTES.true))
 
 pub judge_journal-requires : goal.judge_journal-requires
 judge_journal-requires c = (c.if-area-ne-AREA_BYTES.false, first_not_zero _ c.if-area-ne0.true)
 
-pub returns-then-area-ne0 : goal.returns-then-area-ne0
-returns-then-area-ne0 c = answered c.judge_journal.ensures
-
 pub returns-then-is_zero_from : goal.returns-then-is_zero_from
 unfolding judged
-returns-then-is_zero_from c =
-    answered (zero_answers c.no_journal-then-is_zero_from.ensures (rw (c.if-area-ne-AREA_BYTES.false, ← c.is_zero_from.ensures, c.if-is_zero_from.true)))
+returns-then-is_zero_from c = refused _ (rw (c.if-area-ne-AREA_BYTES.false, ← c.is_zero_from.ensures, c.if-is_zero_from.true))
 
 pub returns : goal.returns
 unfolding judged
 returns c =
-    answered (damaged_answers c.no_journal-2.ensures (rw (c.if-area-ne-AREA_BYTES.false, ← c.is_zero_from.ensures, c.if-is_zero_from.false, first_zero _ c.if-area-ne0.false)))
+    refused _ (rw (c.if-area-ne-AREA_BYTES.false, ← c.is_zero_from.ensures, c.if-is_zero_from.false, first_zero _ c.if-area-ne0.false))

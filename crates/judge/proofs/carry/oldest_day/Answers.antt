@@ -8,31 +8,16 @@ use Rattle.judge.proofs.carry.oldest_day.Goals as goal
 
 pub loop-k-init : goal.loop-k-init
 unfolding those entries_to
-loop-k-init c = (omega arith, refl)
+loop-k-init c = refl
 
 pub returns-then-is_standing : goal.returns-then-is_standing
-returns-then-is_standing c =
-    oldest_is
-    _
-    c.loop-k.k
-    c.entry_at-e.ensures
-    c.is_standing.ensures
-    c.loop-k.invariant.1
-    _
-    (omega arith)
-    c.if-is_standing.true
-
-pub overflow_add-k : goal.overflow_add-k
-overflow_add-k c = omega arith
-
-pub loop-k-smaller : goal.loop-k-smaller
-loop-k-smaller c = omega arith
+returns-then-is_standing c = oldest_is _ c.loop-k.k c.at-e.ensures c.is_standing.ensures c.loop-k.invariant _ c.loop-k-test.true c.if-is_standing.true
 
 pub loop-k-preserved : goal.loop-k-preserved
-loop-k-preserved c = (omega arith, none_yet _ c.loop-k.k c.entry_at-e.ensures c.is_standing.ensures c.loop-k.invariant.1 c.if-is_standing.false)
+loop-k-preserved c = none_yet _ c.loop-k.k c.at-e.ensures c.is_standing.ensures c.loop-k.invariant c.if-is_standing.false
 
 pub returns : goal.returns
 unfolding oldest_of day_of
 returns c =
     let e : c.loop-k.k ≡ c.args.m = omega arith in
-    rw (← e, c.loop-k.invariant.1)
+    rw (← e, c.loop-k.invariant)

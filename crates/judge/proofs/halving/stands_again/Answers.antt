@@ -7,18 +7,16 @@ use Rattle.judge.proofs.Halved.{none_valued}
 use Rattle.judge.proofs.halving.stands_again.Goals as goal
 
 pub returns-then-not-is_withdrawn : goal.returns-then-not-is_withdrawn
-returns-then-not-is_withdrawn c =
-    let none = c.if-not-is_withdrawn.true in
-    rw (← c.is_withdrawn.ensures, none)
+returns-then-not-is_withdrawn c = rw (← c.is_withdrawn.ensures, c.if-not-is_withdrawn.true)
 
 pub returns-then-last-e : goal.returns-then-last-e
 returns-then-last-e c =
     rw (none_stands _ _ _ c.requires.rising (rw c.requires.last_day at c.if-last-e.true)) (sym (and-false (is_withdrawn c.args.e)))
 
-pub returns-then-not-is_marked : goal.returns-then-not-is_marked
-returns-then-not-is_marked c =
-    let none = c.if-not-is_marked.true in
-    rw (none_valued _ _ _ (rw c.requires.marks_are at (sym c.is_marked.ensures ∙ none))) (sym (and-false (is_withdrawn c.args.e)))
+pub returns-else-is_marked : goal.returns-else-is_marked
+returns-else-is_marked c =
+    let none = c.if-is_marked.false in
+    rw (none, none_valued _ _ _ (rw c.requires.marks_are at (sym c.is_marked.ensures ∙ none))) (sym (and-false (is_withdrawn c.args.e)))
 
-pub returns : goal.returns
-returns c = rw (← c.is_withdrawn.ensures, c.if-not-is_withdrawn.false) c.is_placed.ensures
+pub returns-then-is_marked : goal.returns-then-is_marked
+returns-then-is_marked c = rw (← c.is_withdrawn.ensures, c.if-not-is_withdrawn.false) c.is_found.ensures

@@ -1,27 +1,20 @@
--- The flag is the definition's over the entries passed, the newest first.
-use mathlib.Core.Path.{◌≡◌, refl}
-use native.Mathlib.Omega.{arith}
+-- One that is it is among all; none of those passed is, or there are no more.
+use mathlib.Core.Path.{refl, sym}
 use Rattle.terms.specs.Entry.{is_withdrawn, those}
 use Rattle.journal.specs.Journal.{entries_to}
 use Rattle.journal.specs.Sound.{any}
 use Rattle.journal.proofs.Entries.{those_more, any_kept}
+use Rattle.judge.proofs.Indexes.{some_to}
 use Rattle.judge.proofs.index.is_among.Goals as goal
 
 pub loop-k-init : goal.loop-k-init
 unfolding any those entries_to
-loop-k-init c = (omega arith, refl)
+loop-k-init c = refl
 
-pub overflow_add-k : goal.overflow_add-k
-overflow_add-k c = omega arith
-
-pub loop-k-smaller : goal.loop-k-smaller
-loop-k-smaller c = omega arith
+pub returns-then-is_withdrawn-has_read : goal.returns-then-is_withdrawn-has_read
+returns-then-is_withdrawn-has_read c =
+    sym (some_to _ _ _ c.loop-k.k (rw (c.is_withdrawn.ensures, c.has_read.ensures, c.at-e.ensures) at c.if-is_withdrawn-has_read.true) _ c.loop-k-test.true)
 
 pub loop-k-preserved : goal.loop-k-preserved
 loop-k-preserved c =
-    (omega arith, rw (those_more _ _ is_withdrawn c.entry_at-e.ensures c.is_withdrawn.ensures, any_kept, c.has_read.ensures, c.loop-k.invariant.1))
-
-pub returns : goal.returns
-returns c =
-    let e : c.loop-k.k ≡ c.args.m = omega arith in
-    rw e at c.loop-k.invariant.1
+    rw (those_more _ _ is_withdrawn c.at-e.ensures c.is_withdrawn.ensures, any_kept, ← c.has_read.ensures, c.if-is_withdrawn-has_read.false) c.loop-k.invariant

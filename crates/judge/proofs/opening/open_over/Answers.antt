@@ -7,7 +7,7 @@ use native.Mathlib.Omega.{arith}
 use borrow.Author.Tests.{eqb-true, not-false}
 use lib.Dec.{eqb}
 use Rattle.journal.specs.Journal.{is_flagged}
-use Rattle.judge.proofs.Passes.{start_zero, starts_none, first_run, first_stands, starts_first}
+use Rattle.judge.proofs.Passes.{none_run, starts_none, first_run, starts_first}
 use Rattle.journal.proofs.Bools.{neither}
 use Rattle.judge.proofs.opening.open_over.Goals as goal
 
@@ -19,43 +19,32 @@ most_is most all h = eqb-true most 50 (not-false _ (neither (not (eqb most 50)) 
 all_taken : (most : ℕ) (all : Bool) → (not (eqb most 50) || not all) ≡ false → all ≡ true
 all_taken most all h = not-false _ (neither (not (eqb most 50)) (not all) h).1
 
-pub returns-then-limits-all : goal.returns-then-limits-all
-returns-then-limits-all c = starts_none _ _ _ c.start_pass-start.ensures
-
-pub entry_at-e-requires : goal.entry_at-e-requires
-entry_at-e-requires c = omega (arith, most_is _ _ c.if-limits-all.false, c.requires)
+pub returns-then-body-takes_all : goal.returns-then-body-takes_all
+returns-then-body-takes_all c = rw c.open_pass.ensures (starts_none c.args.body (none_run _ c.default-none.ensures))
 
 pub returns-then-not-is_first : goal.returns-then-not-is_first
-returns-then-not-is_first c = starts_none _ _ _ c.start_pass-start.ensures
+returns-then-not-is_first c = rw c.open_pass-then-not-is_first.ensures (starts_none c.args.body (none_run _ c.default-none.ensures))
 
-pub stand-opened-requires : goal.stand-opened-requires
-stand-opened-requires c =
-    let zero = start_zero c.start_pass-start.ensures.0 in
-    (omega (arith, zero.0), omega (arith, zero.1))
-
-pub plain_over-run-requires : goal.plain_over-run-requires
+pub plain_over-requires : goal.plain_over-requires
 unfolding is_flagged
-plain_over-run-requires c =
-    let l = c.args.limits in
-    let none = c.start_pass-start.ensures.0 in
-    let zero = start_zero none in
+plain_over-requires c =
+    let none = none_run _ c.default-none.ensures in
     let first = c.is_first.ensures c.if-not-is_first.false in
-    let one = c.stand-opened.ensures.0 ∙ ap (λ (n : ℕ). n + 1) zero.0 in
-    let opened = c.stand-opened.ensures.1 [] first.stands (rw first.flag (sym zero.2)) none in
-    let read = c.entry_at-e.ensures in
-    (c.requires, omega (arith, one, most_is _ _ c.if-limits-all.false), first_run _ l read _ one opened, first_stands _ l read _ one opened first.stands)
+    let one = c.stand.ensures.0 ∙ ap (λ (n : ℕ). n + 1) c.default-none.ensures.1.1.0 in
+    let opened = c.stand.ensures.1 [] first.stands (rw first.flag (sym c.default-none.ensures.1.1.1.1.0)) none in
+    first_run c.args.body c.at-e.ensures (omega (arith, most_is _ _ c.if-body-takes_all.false)) one opened first.stands
 
 pub returns : goal.returns
 returns c =
-    let first = c.is_first.ensures c.if-not-is_first.false in
-    let most = most_is _ _ c.if-limits-all.false in
-    starts_first
-    _
-    _
-    c.entry_at-e.ensures
-    (sym c.takes_all-all.ensures ∙ all_taken _ _ c.if-limits-all.false)
-    first
+    let most = most_is _ _ c.if-body-takes_all.false in
+    let run = c.plain_over.ensures in
+    rw c.open_pass-2.ensures
+    (starts_first
+    c.args.body
+    c.at-e.ensures
     (omega (arith, most))
-    (c.stand-opened.ensures.0 ∙ ap (λ (n : ℕ). n + 1) (start_zero c.start_pass-start.ensures.0).0)
-    c.plain_over-run.ensures.runs
-    c.plain_over-run.ensures.none
+    (sym c.takes_all.ensures ∙ all_taken _ _ c.if-body-takes_all.false)
+    (c.is_first.ensures c.if-not-is_first.false)
+    (c.stand.ensures.0 ∙ ap (λ (n : ℕ). n + 1) c.default-none.ensures.1.1.0)
+    run.runs
+    run.none)

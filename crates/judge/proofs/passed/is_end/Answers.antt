@@ -4,8 +4,8 @@ use borrow.Author.Tests.{eqb-true}
 use Rattle.journal.proofs.Entries.{count_ends, count_all}
 use Rattle.judge.proofs.passed.is_end.Goals as goal
 
-pub returns-then-at-most : goal.returns-then-at-most
-returns-then-at-most c = λ h. count_all _ _ _ (omega (arith, c.if-at-most.true))
+pub returns-then-at-body : goal.returns-then-at-body
+returns-then-at-body c = λ h. count_all _ _ _ (omega (arith, c.if-at-body.true))
 
-pub returns : goal.returns
-returns c = λ h. count_ends _ _ _ (omega arith) (eqb-true _ _ h)
+pub returns-else-at-body : goal.returns-else-at-body
+returns-else-at-body c = λ h. count_ends _ _ _ (omega arith) (rw c.kind_at.ensures at (eqb-true _ _ h))

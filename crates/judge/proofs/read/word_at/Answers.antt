@@ -1,15 +1,7 @@
 -- Each byte is below 256, so the sum is below 65,536.
 use mathlib.Core.Path.{refl}
-use Prim.Native.Nat.{◌+◌}
-use native.Mathlib.Omega.{arith}
 use Rattle.register.specs.Bytes.{word_at}
 use Rattle.judge.proofs.read.word_at.Goals as goal
-
-pub overflow_mul-result : goal.overflow_mul-result
-overflow_mul-result c = omega (arith, c.type_inv.bytes (c.args.i + 1))
-
-pub overflow_add-result : goal.overflow_add-result
-overflow_add-result c = omega (arith, c.type_inv.bytes c.args.i, c.type_inv.bytes (c.args.i + 1))
 
 pub returns : goal.returns
 unfolding word_at

@@ -1,10 +1,11 @@
 -- A length that is not 0 is that of a journal's entries, so the part lies within the place's area.
-use mathlib.Core.Path.{◌≡◌, refl, ◌∙◌}
+use mathlib.Core.Path.{◌≡◌, refl, sym, ◌∙◌}
 use mathlib.Core.Bool.{Bool, true, false, cond}
 use mathlib.Core.List.{List}
 use mathlib.Core.Logic.{◌≢◌}
 use Prim.Native.Nat.{ℕ, ◌+◌, ◌*◌, ◌-◌, ◌≤◌}
 use native.Mathlib.Omega.{arith}
+use borrow.Author.Tests.{eqb-true}
 use lib.Dec.{eqb}
 use lib.ListN.{length}
 use Rattle.terms.specs.Number.{accepted}
@@ -16,8 +17,8 @@ use Rattle.journal.proofs.Entries.{count_at_most}
 use Rattle.calls.specs.Checks.{report_checks}
 use Rattle.calls.specs.Calls.{place_number, length_in, journal_length, journal_part}
 use Rattle.calls.proofs.Bools.{by_test}
-use Rattle.place.specs.declared.Located.TheVariants.{At}
-use Rattle.place.specs.Located.{located}
+use Rattle.std.specs.Prelude.{Ok}
+use Rattle.place.specs.Located.{Locates}
 use Rattle.place.proofs.Placed.{has_area}
 use Rattle.meter.proofs.part.journal.Goals as goal
 
@@ -34,11 +35,11 @@ length_at_most area =
     (λ h. rw h (omega arith))
 
 within : (p : ℕ) (register : List ℕ) {size : ℕ} → size ≡ journal_length p register → size ≢ 0 → area_bytes * p + size ≤ length register
-unfolding journal_length located
+unfolding journal_length
 within p register e h =
     let area = area_of p register in
     let s = some (eqb (place_number p register) accepted) (length_in area) (λ z. h (e ∙ z)) in
-    let there : located p register ≡ At (area_bytes * p) = rw s.0 in
+    let there : Locates p register (Ok (area_bytes * p)) = record { number_is = sym (eqb-true _ _ s.0); start_is = refl } in
     omega (arith, has_area p register there, e, s.1, length_at_most area)
 
 pub returns-then-size-eq0 : goal.returns-then-size-eq0

@@ -45,9 +45,10 @@ module _ (j : Journal) {t : Summary} (e : t ≡ summary_of j) where
   from_none : t.counts.standing ≡ 0 → total_of j.head (standing j.entries) ≡ pos 0
   from_none none = total_none j.head (standing j.entries) (sym counted ∙ none)
 
-pub returns-then-counts-eq0 : goal.returns-then-counts-eq0
-returns-then-counts-eq0 c = λ j e f. sym (from_none j e c.if-counts-eq0.true)
+pub returns-then-t-eq0 : goal.returns-then-t-eq0
+returns-then-t-eq0 c = sym (from_none _ c.args.journal.now.counted.summary c.if-t-eq0.true)
 
 pub returns : goal.returns
-returns c = λ j e f.
-    to_z-of_z w64 _ (sfits_of c.total.type_inv) ∙ c.total.ensures _ (limit_is j e) ∙ sym (from_last j e _ _ f (c.first.ensures j e) c.if-counts-eq0.false)
+returns c =
+    let e = c.args.journal.now.counted.summary in
+    to_z-of_z w64 _ (sfits_of c.total.type_inv) ∙ c.total.ensures _ (limit_is _ e) ∙ sym (from_last _ e _ _ c.requires c.first.ensures c.if-t-eq0.false)

@@ -1,22 +1,15 @@
 -- The judgement decides the checks of a report, and what it counts of a sound journal is what the search asks for.
-use mathlib.Core.Path.{sym, ◌∙◌}
 use mathlib.Core.List.{[]}
+use Rattle.terms.proofs.Refusals.{refuses, passed_on}
 use Rattle.calls.specs.Checks.{report_checks}
 use Rattle.meter.specs.Search.{search_in}
-use Rattle.meter.proofs.Judged.{zero_number, damaged_number, sound_number}
+use Rattle.meter.proofs.Judged.{refused_number, sound_number}
 use Rattle.meter.proofs.search.search_in.Goals as goal
 
-pub returns-in-Zero : goal.returns-in-Zero
+pub returns-in_err-judged : goal.returns-in_err-judged
 unfolding search_in report_checks
-returns-in-Zero c = rw (c.refuse_search.ensures, zero_number (λ j. []) _ c.requires (sym c.judge_area-judgement.ensures.0.found_is ∙ c.in-Zero.is))
+returns-in_err-judged c = rw (passed_on _ c.from_residual.ensures.1, refused_number (λ j. []) _ c.requires c.in_err-judged.ensures, refuses)
 
-pub returns-in-Damaged : goal.returns-in-Damaged
+pub returns : goal.returns
 unfolding search_in report_checks
-returns-in-Damaged c =
-    rw (c.refuse_search-in-Damaged.ensures, damaged_number (λ j. []) _ c.requires (sym c.judge_area-judgement.ensures.0.found_is ∙ c.in-Damaged.is))
-
-pub returns-in-Sound : goal.returns-in-Sound
-unfolding search_in report_checks
-returns-in-Sound c =
-    let sound = sound_number (λ j. []) _ c.requires (sym c.judge_area-judgement.ensures.0.found_is ∙ c.in-Sound.is) in
-    rw (sound.1, c.search_day-answer.ensures sound.0)
+returns c = rw (sound_number (λ j. []) _ c.requires c.in_ok-judged.ensures, c.search_day.ensures, c.in_ok-judged.ensures.area_is)

@@ -9,7 +9,7 @@ use lib.Dec.{eqb, ltb}
 use lib.ListN.{length}
 use Rattle.terms.specs.declared.entry.Entry.{Entry}
 use Rattle.terms.specs.Entry.{slot_at}
-use Rattle.journal.specs.Journal.{standing, day_of}
+use Rattle.journal.specs.Journal.{journal_of, standing, day_of}
 use Rattle.journal.specs.Sound.{has_read}
 use Rattle.judge.specs.Inner.Judged.{counts_of, value_of, summary_of}
 use Rattle.calls.specs.Checks.{is_not_last}
@@ -24,4 +24,4 @@ by_last day value (s ∷ ss) =
 
 pub returns : goal.returns
 unfolding summary_of counts_of
-returns c = λ j e. rw e (by_last _ _ (standing j.entries))
+returns c = rw c.args.journal.now.counted.summary (by_last _ _ (standing (journal_of c.args.journal.now.area.now).entries))

@@ -2,10 +2,10 @@
 use Rattle.calls.specs.Calls.{withdrawn_bytes}
 use Rattle.meter.proofs.withdraw.mark_withdrawn.Goals as goal
 
-pub returns-then-held : goal.returns-then-held
+pub returns-then-w : goal.returns-then-w
 unfolding withdrawn_bytes
-returns-then-held c = rw (c.put_entry.ensures, c.put_byte.ensures, c.if-held.true)
+returns-then-w c = rw (c.put_entry.ensures, c.put_byte.ensures, c.if-w.true)
 
-pub returns-else-held : goal.returns-else-held
+pub returns-else-w : goal.returns-else-w
 unfolding withdrawn_bytes
-returns-else-held c = rw (c.put_byte.ensures, c.if-held.false)
+returns-else-w c = rw (c.put_byte.ensures, c.if-w.false)

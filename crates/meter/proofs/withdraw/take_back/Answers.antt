@@ -25,11 +25,11 @@ module _ {x : ℕ} {a : ℤ} (w : Word x a advance_most) where
 pub overflow_sub-result : goal.overflow_sub-result
 overflow_sub-result c = fits (advance_word _ _ _ _ c.advance.ensures (omega arith) (omega arith) (omega arith))
 
-pub returns-in-Read : goal.returns-in-Read
+pub returns-in-Some : goal.returns-in-Some
 unfolding advance_over
-returns-in-Read c =
-    reads (advance_word _ _ _ _ c.advance.ensures (omega arith) (omega arith) (omega arith)) ∙ sym (ap neg_ℤ (ap (advance_over _ _ _) c.in-Read.is))
+returns-in-Some c =
+    reads (advance_word _ _ _ _ c.advance.ensures (omega arith) (omega arith) (omega arith)) ∙ sym (ap neg_ℤ (ap (advance_over _ _ _) c.in-Some.is))
 
-pub returns-in-Empty : goal.returns-in-Empty
+pub returns-in-None : goal.returns-in-None
 unfolding advance_over
-returns-in-Empty c = rw c.in-Empty.is
+returns-in-None c = rw c.in-None.is

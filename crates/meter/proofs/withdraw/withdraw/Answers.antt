@@ -1,21 +1,18 @@
 -- The place is checked as the step has it, and what is lent is the area.
-use mathlib.Core.Path.{sym, ◌∙◌}
 use native.Mathlib.Omega.{arith}
+use Rattle.terms.proofs.Refusals.{passed_on}
 use Rattle.calls.specs.declared.call.Call.TheVariants.{Withdraw}
 use Rattle.calls.specs.Calls.{act, place_of, refusal_of}
-use Rattle.place.proofs.Placed.{has_area, refuses, writes}
+use Rattle.place.proofs.Placed.{has_area, refuses_call, writes}
 use Rattle.meter.proofs.withdraw.withdraw.Goals as goal
 
-pub overflow_add-end : goal.overflow_add-end
-overflow_add-end c = omega (arith, has_area _ _ (sym c.locate.ensures.found_is ∙ c.in-At.is))
-
 pub slice_bounds-withdraw_in-end : goal.slice_bounds-withdraw_in-end
-slice_bounds-withdraw_in-end c = omega (arith, has_area _ _ (sym c.locate.ensures.found_is ∙ c.in-At.is))
+slice_bounds-withdraw_in-end c = omega (arith, has_area _ _ c.in_ok-start.ensures)
 
-pub returns-in-Refused : goal.returns-in-Refused
+pub returns-in_err-start : goal.returns-in_err-start
 unfolding place_of refusal_of
-returns-in-Refused c = rw c.refuse.ensures (refuses (Withdraw c.args.place c.args.day c.args.value) _ (sym c.locate.ensures.found_is ∙ c.in-Refused.is))
+returns-in_err-start c = rw (passed_on _ c.from_residual.ensures.1) (refuses_call (Withdraw c.args.place c.args.day c.args.value) _ c.in_err-start.ensures)
 
-pub returns-in-At : goal.returns-in-At
+pub returns : goal.returns
 unfolding place_of act
-returns-in-At c = writes (Withdraw c.args.place c.args.day c.args.value) _ (sym c.locate.ensures.found_is ∙ c.in-At.is) c.withdraw_in.ensures
+returns c = writes (Withdraw c.args.place c.args.day c.args.value) _ c.in_ok-start.ensures c.withdraw_in.ensures

@@ -6,12 +6,12 @@ use mir.ValLaws.{to_z-of_z}
 use Rattle.calls.specs.Calls.{withdrawn_answer}
 use Rattle.meter.proofs.withdraw.withdrawn_answer.Goals as goal
 
-pub returns-in-Read : goal.returns-in-Read
+pub returns-in-Some : goal.returns-in-Some
 unfolding withdrawn_answer
-returns-in-Read c =
+returns-in-Some c =
     let advance = to_z-of_z w64 _ (sfits_of c.take_back.type_inv) ∙ c.take_back.ensures in
-    rw (advance, c.in-Read.is)
+    rw (advance, c.in-Some.is)
 
-pub returns-in-Empty : goal.returns-in-Empty
+pub returns-in-None : goal.returns-in-None
 unfolding withdrawn_answer
-returns-in-Empty c = rw (c.accept.ensures, c.in-Empty.is)
+returns-in-None c = rw c.in-None.is

@@ -3,7 +3,7 @@ use mathlib.Core.Path.{refl}
 use Rattle.arithmetic.specs.Powers.{ten_to}
 use Rattle.calls.specs.Calls.{place_of}
 use Rattle.calls.specs.Play.{number_of, is_trial, names}
-use Rattle.sheet.specs.Sheet.{kind_byte, kind_in, kind_of}
+use Rattle.sheet.specs.Sheet.{kind_byte, form_of}
 use Rattle.tally.specs.Tally.{is_zero, has_other_dials, is_no_value, is_broken, tally_number}
 use Rattle.tally.specs.Change.{tally_for, may_be, made_to, enrolled, with_read, last_without, without_read, taken, tally_after}
 use Rattle.tally.specs.Examples.{year}
@@ -11,7 +11,7 @@ use Rattle.necktureen.specs.Told.{told_call, told_kind, told_of, kind_told, dial
 use Rattle.necktureen.proofs.told.told_examples_hold.Goals as goal
 
 pub returns : goal.returns
-unfolding ten_to place_of number_of is_trial names kind_byte kind_in kind_of is_zero has_other_dials is_no_value is_broken tally_number tally_for may_be made_to enrolled with_read last_without without_read taken tally_after year told_call told_kind told_of kind_told dials_of value_of flag_told advance_told exchange_told told_by all_told told_over
+unfolding ten_to place_of number_of is_trial names kind_byte form_of is_zero has_other_dials is_no_value is_broken tally_number tally_for may_be made_to enrolled with_read last_without without_read taken tally_after year told_call told_kind told_of kind_told dials_of value_of flag_told advance_told exchange_told told_by all_told told_over
 returns c =
     record {
       enrolment = λ any. refl;

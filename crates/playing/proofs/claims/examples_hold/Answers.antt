@@ -7,7 +7,7 @@ use borrow.Author.Tests.{lt-ltb}
 use lib.ListN.{length}
 use Rattle.calls.specs.Calls.{place_of, refusal_of, is_misfit, place_number, step}
 use Rattle.calls.specs.Play.{exchanges}
-use Rattle.sheet.specs.Sheet.{kind_byte, call_at, kind_in, kind_of, entry_at, next_at, next_number, sheet_most, go_on, split_from, split_of}
+use Rattle.sheet.specs.Sheet.{kind_byte, call_at, form_of, entry_at, next_at, next_number, sheet_most, go_on, split_from, split_of}
 use Rattle.lines.specs.Decimal.{digits, digit_count_in, digit_count, decimal, signed}
 use Rattle.lines.specs.Line.{field, last_field, line_of}
 use Rattle.lines.proofs.Lengths.{fault_line_lem}
@@ -19,5 +19,5 @@ unfolding next_number split_of exchanges lines_of text_from text_of
 alone sheet register e = rw (lt-ltb sheet_most (length sheet) (omega (arith, e))) fault_line_lem
 
 pub returns : goal.returns
-unfolding place_of refusal_of is_misfit place_number step exchanges kind_byte call_at kind_in kind_of entry_at next_at next_number go_on split_from split_of digits digit_count_in digit_count decimal signed field last_field line_of lines_of text_from text_of
+unfolding place_of refusal_of is_misfit place_number step exchanges kind_byte call_at form_of entry_at next_at next_number go_on split_from split_of digits digit_count_in digit_count decimal signed field last_field line_of lines_of text_from text_of
 returns c = record { no_call = refl; two_calls = refl; fault_between = refl; over_long = alone }

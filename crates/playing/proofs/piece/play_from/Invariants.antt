@@ -4,8 +4,8 @@ use lib.ListN.{length}
 use Rattle.playing.proofs.Pieces.{Going}
 use Rattle.playing.proofs.piece.play_from.Given as goal
 
-abbrev pub invariant-loop-at : goal.invariant-loop-at
-invariant-loop-at l = Going l.sheet l.start l.initial.register l.initial.out l.register l.out l.at l.end
+abbrev pub invariant-loop-play : goal.invariant-loop-play
+invariant-loop-play l = Going l.sheet l.initial.play l.play
 
-abbrev pub decreases-loop-at : goal.decreases-loop-at
-decreases-loop-at l = length l.sheet - l.at
+abbrev pub decreases-loop-play : goal.decreases-loop-play
+decreases-loop-play l = length l.sheet - l.play.so_far.at

@@ -1,28 +1,16 @@
 -- What is left of the sheet, played on what the turns so far left, makes the whole of it; at the end nothing is left.
-use native.Mathlib.Omega.{arith}
+use Rattle.std.proofs.Common.{refl, rules}
 use Rattle.playing.proofs.Turns.{begun, turned, over, over_long}
 use Rattle.playing.proofs.whole.play.Goals as goal
 
-pub returns-then-sheet-gt-MOST_BYTES : goal.returns-then-sheet-gt-MOST_BYTES
-returns-then-sheet-gt-MOST_BYTES c = over_long c.if-sheet-gt-MOST_BYTES.true c.put_fault.ensures
+pub returns-then-sheet-gt-SHEET_MOST : goal.returns-then-sheet-gt-SHEET_MOST
+returns-then-sheet-gt-SHEET_MOST c = over_long c.if-sheet-gt-SHEET_MOST.true c.put_fault.ensures
 
-pub loop-at-init : goal.loop-at-init
-loop-at-init c = begun _ _ _ c.if-sheet-gt-MOST_BYTES.false
+pub loop-play-init : goal.loop-play-init
+loop-play-init c = begun _ _ refl refl c.if-sheet-gt-SHEET_MOST.false
 
-pub play_next-p-requires : goal.play_next-p-requires
-play_next-p-requires c = record { short = omega arith; more = c.loop-at-test.true; few = c.loop-at.invariant.few }
-
-pub loop-at-smaller : goal.loop-at-smaller
-loop-at-smaller c = omega (arith, c.play_next-p.ensures.on)
-
-pub loop-at-preserved : goal.loop-at-preserved
-loop-at-preserved c = turned _ _ _ c.loop-at.invariant c.loop-at-test.true c.play_next-p.ensures c.play_next-p.auto.register c.play_next-p.auto.out
-
-pub shape_of-register : goal.shape_of-register
-shape_of-register c = c.loop-at.invariant.same_register
-
-pub shape_of-out : goal.shape_of-out
-shape_of-out c = c.loop-at.invariant.same_out
+pub loop-play-preserved : goal.loop-play-preserved
+loop-play-preserved c = turned _ _ c.loop-play.invariant c.loop-play-test.true c.turn.ensures.kept c.turn.ensures.turned
 
 pub returns : goal.returns
-returns c = over _ _ _ c.loop-at.invariant c.loop-at-test.false
+returns c = over _ _ c.loop-play.invariant (search rules) (search rules) refl c.loop-play-test.false

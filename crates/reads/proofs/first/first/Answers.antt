@@ -12,11 +12,11 @@ unfolding first_in summary_of counts_of
 by_summary j t e = rw e
 
 pub returns-then-head : goal.returns-then-head
-returns-then-head c = λ j e.
-    let t = c.args.t in
-    sym (ap (λ (b : Bool). cond b t.head.carry.first t.counts.first) c.if-head.true) ∙ by_summary j t e
+returns-then-head c =
+    let t = c.args.journal.now.summary in
+    sym (ap (λ (b : Bool). cond b t.head.carry.first t.counts.first) c.if-head.true) ∙ by_summary _ t c.args.journal.now.counted.summary
 
 pub returns : goal.returns
-returns c = λ j e.
-    let t = c.args.t in
-    sym (ap (λ (b : Bool). cond b t.head.carry.first t.counts.first) c.if-head.false) ∙ by_summary j t e
+returns c =
+    let t = c.args.journal.now.summary in
+    sym (ap (λ (b : Bool). cond b t.head.carry.first t.counts.first) c.if-head.false) ∙ by_summary _ t c.args.journal.now.counted.summary

@@ -4,8 +4,8 @@ use Rattle.reads.proofs.Days.{read_on_day, none_on_day}
 use Rattle.reads.proofs.Counted.{rises}
 use Rattle.reads.proofs.found.has_standing.Goals as goal
 
-pub returns-in-Read : goal.returns-in-Read
-returns-in-Read c = λ is. read_on_day _ _ _ (rises _ _ is) (sym c.in-Read.is ∙ c.read_on.ensures is)
+pub returns-in-Some : goal.returns-in-Some
+returns-in-Some c = read_on_day _ _ _ (rises _ _ c.args.journal.now.counted) (sym c.in-Some.is ∙ c.read_on.ensures)
 
-pub returns-in-Empty : goal.returns-in-Empty
-returns-in-Empty c = λ is. none_on_day _ _ _ (rises _ _ is) (sym c.in-Empty.is ∙ c.read_on.ensures is)
+pub returns-in-None : goal.returns-in-None
+returns-in-None c = none_on_day _ _ _ (rises _ _ c.args.journal.now.counted) (sym c.in-None.is ∙ c.read_on.ensures)

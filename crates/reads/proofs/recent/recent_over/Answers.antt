@@ -11,8 +11,8 @@ returns-then-b-eq0 c = rw (none_left _ _ _ c.back-b.ensures c.if-b-eq0.true, c.e
 pub entry_at-requires-2 : goal.entry_at-requires-2
 entry_at-requires-2 c = omega (arith, c.back-b.ensures.fewer)
 
-pub last_over-third-requires : goal.last_over-third-requires
-last_over-third-requires c = omega (arith, c.back-b.ensures.fewer)
+pub last_over-requires : goal.last_over-requires
+last_over-requires c = omega (arith, c.back-b.ensures.fewer)
 
 pub returns : goal.returns
 unfolding recent_of slot_at
@@ -21,5 +21,5 @@ returns c =
       one_left _ _ _ c.back-b.ensures c.if-b-eq0.false,
       c.entry_at.ensures,
       c.entry_at-2.ensures,
-      c.last_over-third.ensures,
+      c.last_over.ensures,
     )

@@ -7,6 +7,3 @@ use Rattle.reads.proofs.search.search_back.Given as goal
 
 abbrev pub invariant-loop-k : goal.invariant-loop-k
 invariant-loop-k l = (l.later + l.k ≤ l.m) × (search_from l.day l.later (standing (entries_to l.k l.body)) ≡ search_from l.day 0 (standing (entries_to l.m l.body)))
-
-abbrev pub decreases-loop-k : goal.decreases-loop-k
-decreases-loop-k l = l.k

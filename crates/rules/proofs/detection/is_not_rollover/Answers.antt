@@ -3,10 +3,10 @@ use mathlib.Core.Path.{sym, ap, ◌∙◌}
 use Rattle.rules.specs.Detection.{is_not_rollover}
 use Rattle.rules.proofs.detection.is_not_rollover.Goals as goal
 
-pub returns-in-Read : goal.returns-in-Read
+pub returns-in-Some : goal.returns-in-Some
 unfolding is_not_rollover
-returns-in-Read c = c.is_small_step.ensures ∙ sym (ap (is_not_rollover _ _) c.in-Read.is)
+returns-in-Some c = c.is_small_step.ensures ∙ sym (ap (is_not_rollover _ _) c.in-Some.is)
 
-pub returns-in-Empty : goal.returns-in-Empty
+pub returns-in-None : goal.returns-in-None
 unfolding is_not_rollover
-returns-in-Empty c = sym (ap (is_not_rollover _ _) c.in-Empty.is)
+returns-in-None c = sym (ap (is_not_rollover _ _) c.in-None.is)

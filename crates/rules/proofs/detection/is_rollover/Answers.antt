@@ -8,11 +8,11 @@ returns-in_default c = rw c.in_default.is
 
 pub returns-in_default-second : goal.returns-in_default-second
 unfolding is_rollover
-returns-in_default-second c = rw (c.in-Read.is, c.in_default-second.is)
+returns-in_default-second c = rw (c.in-Some.is, c.in_default-second.is)
 
 pub returns-in_default-third : goal.returns-in_default-third
 unfolding is_rollover
-returns-in_default-third c = rw (c.in-Read.is, c.in-Read-second.is, c.in_default-third.is)
+returns-in_default-third c = rw (c.in-Some.is, c.in-Some-second.is, c.in_default-third.is)
 
 pub is_like_rate-requires : goal.is_like_rate-requires
 is_like_rate-requires c = c.power-turn.ensures
@@ -30,9 +30,9 @@ pub returns : goal.returns
 unfolding is_rollover
 returns c =
     rw (
-      c.in-Read.is,
-      c.in-Read-second.is,
-      c.in-Read-third.is,
+      c.in-Some.is,
+      c.in-Some-second.is,
+      c.in-Some-third.is,
       c.is_near_turn.ensures,
       c.is_like_rate.ensures,
       c.is_small_turn.ensures,

@@ -3,30 +3,30 @@ use borrow.Author.Tests.{ne_eqb}
 use Rattle.rules.specs.Indicator.{indicated}
 use Rattle.rules.proofs.indicator.indicate.Goals as goal
 
-pub returns-then-indicator-eq-FALSE : goal.returns-then-indicator-eq-FALSE
+pub returns-then-indicator : goal.returns-then-indicator
 unfolding indicated
-returns-then-indicator-eq-FALSE c = rw (c.in-Rollover.is, c.if-indicator-eq-FALSE.true)
+returns-then-indicator c = rw (c.in-Rollover.is, c.if-indicator.true)
 
-pub returns-then-indicator-eq-TRUE : goal.returns-then-indicator-eq-TRUE
+pub returns-then-indicator-2 : goal.returns-then-indicator-2
 unfolding indicated
-returns-then-indicator-eq-TRUE c = rw (c.in-NotRollover.is, c.if-indicator-eq-TRUE.true)
+returns-then-indicator-2 c = rw (c.in-NotRollover.is, c.if-indicator-2.true)
 
-pub returns-then-indicator-eq-NOT_SET : goal.returns-then-indicator-eq-NOT_SET
+pub returns-then-indicator-3 : goal.returns-then-indicator-3
 unfolding indicated
-returns-then-indicator-eq-NOT_SET c = rw (c.in-Indeterminate.is, c.if-indicator-eq-NOT_SET.true)
+returns-then-indicator-3 c = rw (c.in-Indeterminate.is, c.if-indicator-3.true)
 
-pub returns-then-indicator-eq-TRUE-2 : goal.returns-then-indicator-eq-TRUE-2
+pub returns-then-indicator-4 : goal.returns-then-indicator-4
 unfolding indicated
-returns-then-indicator-eq-TRUE-2 c = rw (c.in-Indeterminate.is, c.if-indicator-eq-TRUE-2.true)
+returns-then-indicator-4 c = rw (c.in-Indeterminate.is, c.if-indicator-4.true)
 
-pub returns-else-indicator-eq-FALSE : goal.returns-else-indicator-eq-FALSE
+pub returns-else-indicator : goal.returns-else-indicator
 unfolding indicated
-returns-else-indicator-eq-FALSE c = rw (c.in-Rollover.is, ne_eqb _ _ c.if-indicator-eq-FALSE.false)
+returns-else-indicator c = rw (c.in-Rollover.is, ne_eqb _ _ c.if-indicator.false)
 
-pub returns-else-indicator-eq-TRUE : goal.returns-else-indicator-eq-TRUE
+pub returns-else-indicator-2 : goal.returns-else-indicator-2
 unfolding indicated
-returns-else-indicator-eq-TRUE c = rw (c.in-NotRollover.is, ne_eqb _ _ c.if-indicator-eq-TRUE.false)
+returns-else-indicator-2 c = rw (c.in-NotRollover.is, ne_eqb _ _ c.if-indicator-2.false)
 
-pub returns-else-indicator-eq-TRUE-2 : goal.returns-else-indicator-eq-TRUE-2
+pub returns-else-indicator-4 : goal.returns-else-indicator-4
 unfolding indicated
-returns-else-indicator-eq-TRUE-2 c = rw (c.in-Indeterminate.is, ne_eqb _ _ c.if-indicator-eq-NOT_SET.false, ne_eqb _ _ c.if-indicator-eq-TRUE-2.false)
+returns-else-indicator-4 c = rw (c.in-Indeterminate.is, ne_eqb _ _ c.if-indicator-3.false, ne_eqb _ _ c.if-indicator-4.false)

@@ -5,12 +5,12 @@ use Rattle.rules.specs.Volume.{advance_over}
 use Rattle.rules.proofs.Laws.{advance_word}
 use Rattle.rules.proofs.volume.advance_over.Goals as goal
 
-pub returns-in-Read : goal.returns-in-Read
+pub returns-in-Some : goal.returns-in-Some
 unfolding advance_over
-returns-in-Read c =
+returns-in-Some c =
     (advance_word _ _ _ _ c.advance.ensures (omega arith) (omega arith) (omega arith)).reads
-    ∙ sym (ap (advance_over _ _ _) c.in-Read.is)
+    ∙ sym (ap (advance_over _ _ _) c.in-Some.is)
 
-pub returns-in-Empty : goal.returns-in-Empty
+pub returns-in-None : goal.returns-in-None
 unfolding advance_over
-returns-in-Empty c = sym (ap (advance_over _ _ _) c.in-Empty.is)
+returns-in-None c = sym (ap (advance_over _ _ _) c.in-None.is)

@@ -18,7 +18,7 @@ module _ (c : tie.After-advance-p) where
   start = c.before.before
 
   abbrev p : ℤ
-  p = last_advance start.args.n start.args.r0 c.before.in-Read.r1
+  p = last_advance start.args.n start.args.r0 c.before.in-Some.r1
 
   earlier : AdvanceWord c.advance-p.result p
   earlier = advance_word _ _ _ _ c.advance-p.ensures (omega arith) (omega arith) (omega arith)
@@ -51,7 +51,7 @@ unfolding compared
 returns_2 c =
     let b = c.before.before.before in
     rw (
-      b.before.in-Read.is,
+      b.before.in-Some.is,
       ← asked c.before.before,
       c.before.if-has_threshold-p.true,
       c.compare_with.ensures,
@@ -61,7 +61,7 @@ returns_2 c =
 
 returns_3 : tie.Need-returns
 unfolding compared
-returns_3 c = rw (c.in-Read.is, ← asked c.before, c.if-has_threshold-p.false)
+returns_3 c = rw (c.in-Some.is, ← asked c.before, c.if-has_threshold-p.false)
 
 pub compare_spec : {M : Type 1} → statement M
 compare_spec =

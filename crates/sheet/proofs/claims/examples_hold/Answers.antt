@@ -7,7 +7,7 @@ use native.Mathlib.Omega.{arith}
 use borrow.Author.Tests.{lt-ltb, le-ltb}
 use lib.ListN.{length}
 use Rattle.register.specs.Bytes.{word_at, long_at}
-use Rattle.sheet.specs.Sheet.{kind_byte, call_at, kind_in, kind_of, entry_at, next_at, next_number, sheet_most, go_on, split_from, split_of}
+use Rattle.sheet.specs.Sheet.{kind_byte, call_at, form_of, entry_at, next_at, next_number, sheet_most, go_on, split_from, split_of}
 use Rattle.sheet.proofs.claims.examples_hold.Goals as goal
 
 module _ (sheet : List ℕ) where
@@ -20,7 +20,7 @@ module _ (sheet : List ℕ) where
   over e = rw (lt-ltb sheet_most (length sheet) (omega (arith, e)))
 
 pub returns : goal.returns
-unfolding word_at long_at kind_byte call_at kind_in kind_of entry_at next_at next_number go_on split_from split_of
+unfolding word_at long_at kind_byte call_at form_of entry_at next_at next_number go_on split_from split_of
 returns c =
     record {
       enrolled = refl;

@@ -1,18 +1,20 @@
--- A tally of zeros is the one that reports 3; of the next none of the numbers is below 0.
-use mathlib.Core.Path.{sym, ◌∙◌}
-use Rattle.calls.proofs.Bools.{by_test}
+-- A tally is compared with one of zeros; of the next none of the numbers is below 0.
+use mathlib.Core.Path.{◌≡◌, sym, ◌∙◌}
+use mathlib.Core.Bool.{true, false}
+use borrow.Author.Tests.{not-true, not-false}
 use Rattle.tally.specs.Tally.{is_zero}
 use Rattle.tally.specs.Change.{tally_for, may_be, made_to, enrolled}
-use Rattle.tally.proofs.FitNumbers.{zero_number, number_zero}
+use Rattle.tally.proofs.Checked.{compared}
 use Rattle.tally.proofs.change.enrol.Goals as goal
 
-pub returns-then-tally_number-ne-NO_METER : goal.returns-then-tally_number-ne-NO_METER
-returns-then-tally_number-ne-NO_METER c =
-    let t = c.args.t in
-    by_test (is_zero t)
-    (λ h. absurd (c.if-tally_number-ne-NO_METER.true (c.tally_number.ensures ∙ zero_number t h)))
-    (λ h. rw h)
+pub returns-then-ne : goal.returns-then-ne
+returns-then-ne c =
+    let other : is_zero c.args.t ≡ false = sym (compared _ c.default.ensures) ∙ not-true _ (sym c.ne.ensures ∙ c.if-ne.true) in
+    rw other
 
 pub returns : goal.returns
 unfolding made_to may_be tally_for enrolled
-returns c = c.made_to.ensures ∙ rw (number_zero c.args.t (sym c.tally_number.ensures ∙ c.if-tally_number-ne-NO_METER.false))
+returns c =
+    let zero : is_zero c.args.t ≡ true = sym (compared _ c.default.ensures) ∙ not-false _ (sym c.ne.ensures ∙ c.if-ne.false) in
+    let z = c.default-2.ensures in
+    rw (c.made_to.ensures, zero, c.from.ensures, z.1.0, z.1.1.0, z.1.1.1.0, z.1.1.1.1)

@@ -3,10 +3,10 @@ use borrow.Author.Tests.{lt-ltb, le-ltb}
 use Rattle.tally.specs.Inner.Moved.{shown_by}
 use Rattle.tally.proofs.change.shown.Goals as goal
 
-pub returns-then-value-limit : goal.returns-then-value-limit
+pub returns-then-value-from : goal.returns-then-value-from
 unfolding shown_by
-returns-then-value-limit c = rw (lt-ltb _ _ c.if-value-limit.true)
+returns-then-value-from c = rw (← c.from.ensures, lt-ltb _ _ c.if-value-from.true)
 
 pub returns : goal.returns
 unfolding shown_by
-returns c = rw (le-ltb _ _ c.if-value-limit.false)
+returns c = rw (← c.from.ensures, le-ltb _ _ c.if-value-from.false)

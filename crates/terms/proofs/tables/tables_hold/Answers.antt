@@ -3,11 +3,12 @@ use mathlib.Core.Path.{refl}
 use Rattle.terms.specs.Entry.{is_standing, is_withdrawn, is_held}
 use Rattle.terms.specs.Letter.{is_known, is_opening, is_final, is_holdable, is_unchecked}
 use Rattle.terms.specs.Profile.{meter_kind, profile_of, takes}
+use Rattle.terms.specs.Refusal.{number_of}
 use Rattle.terms.specs.Tables.{below}
 use Rattle.terms.proofs.tables.tables_hold.Goals as goal
 
 pub returns : goal.returns
-unfolding is_standing is_withdrawn is_held is_known is_opening is_final is_holdable is_unchecked meter_kind profile_of takes below
+unfolding is_standing is_withdrawn is_held is_known is_opening is_final is_holdable is_unchecked meter_kind profile_of takes number_of below
 returns c =
     record {
       accepted_0 = refl;
@@ -40,11 +41,44 @@ returns c =
       no_fold_27 = refl;
       oldest_kept_28 = refl;
       other_type_29 = refl;
+      refusal_1 = refl;
+      refusal_2 = refl;
+      refusal_3 = refl;
+      refusal_4 = refl;
+      refusal_5 = refl;
+      refusal_6 = refl;
+      refusal_7 = refl;
+      refusal_8 = refl;
+      refusal_9 = refl;
+      refusal_10 = refl;
+      refusal_11 = refl;
+      refusal_12 = refl;
+      refusal_13 = refl;
+      refusal_14 = refl;
+      refusal_15 = refl;
+      refusal_16 = refl;
+      refusal_17 = refl;
+      refusal_18 = refl;
+      refusal_19 = refl;
+      refusal_20 = refl;
+      refusal_21 = refl;
+      refusal_22 = refl;
+      refusal_23 = refl;
+      refusal_24 = refl;
+      refusal_25 = refl;
+      refusal_26 = refl;
+      refusal_27 = refl;
+      refusal_28 = refl;
+      refusal_29 = refl;
       none_broken = refl;
       both_broken = refl;
       accepted_zeros = refl;
       answer_fields = refl;
       refused_zeros = refl;
+      accepted_answer = refl;
+      refused_answer = refl;
+      accepted_report = refl;
+      refused_report_row = refl;
       report_fields = refl;
       report_zeros = refl;
       meter_kind_1 = refl;

@@ -1,2 +1,0 @@
--- What only proofs and inner contracts need: the decision on a withdrawal, apart from the writing.
-pub mod Withdrawal
