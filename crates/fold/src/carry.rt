@@ -8,7 +8,7 @@ ghost use Rattle.fold.specs.Inner.Flags.{flag_in, flags_in};
 
 use crate::foldable::Foldable;
 use judge::sound::Sound;
-use reads::first::first;
+use reads::sound::first;
 use register::head::{Carry, Head};
 use terms::entry::{Entry, Recent};
 

@@ -11,7 +11,7 @@ use calls::call::{Call, Reply};
 use judge::area::judge_area;
 use judge::sound::Sound;
 use place::locate;
-use reads::first::first;
+use reads::sound::first;
 use register::area::Layout;
 use terms::answer::Totals;
 use terms::refusal::Refusal;

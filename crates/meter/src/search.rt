@@ -5,7 +5,8 @@ ghost use Rattle.meter.specs.Search.{as_searched, search_in, search_of};
 
 use judge::area::judge_area;
 use place::locate;
-use reads::search::{Search, search_day};
+use reads::search::Search;
+use reads::sound::search_day;
 use register::area::Layout;
 use terms::refusal::Refusal;
 

@@ -5,21 +5,27 @@ use mathlib.Core.Bool.{Bool, true, false, cond}
 use mathlib.Core.List.{List, [], ◌∷◌}
 use Prim.Native.Nat.{ℕ, zero, suc, ◌+◌, ◌-◌, ◌≤◌, ◌<◌}
 use native.Mathlib.Omega.{arith}
-use lib.ListN.{length}
+use borrow.Author.Tests.{ltb-true, ltb-false, eqb-true, eqb-false}
+use mir.Val.{bool_byte}
+use lib.Dec.{eqb, ltb}
+use lib.ListN.{length, take, drop}
 use Rattle.terms.specs.declared.entry.Entry.{Entry}
 use Rattle.terms.specs.Entry.{is_standing, is_held, those, slot_at}
+use Rattle.register.specs.declared.head.Head.{Head}
 use Rattle.register.specs.Entries.{entry_start, entry_at}
-use Rattle.register.specs.Head.{head_of, most_entries, body_of}
+use Rattle.register.specs.Head.{head_of, head_bytes, most_entries, body_of}
 use Rattle.register.proofs.Body.{body_room, head_room}
 use Rattle.judge.specs.declared.area.Summary.{Summary}
 use Rattle.journal.specs.Journal.{Journal, journal_of, entries_to, standing, kept, held_of, is_there, newest_at, day_of}
 use Rattle.journal.specs.Sound.{are_in_order, are_sound, days_rise}
 use Rattle.judge.specs.Inner.Judged.{counts_of, summary_of, Counted}
-use Rattle.journal.proofs.Bools.{both}
+use Rattle.journal.proofs.Bools.{false_is, both}
 use Rattle.journal.proofs.Entries.{one_more, length_entries, count_at_most}
 use Rattle.journal.proofs.InOrder.{days_rise_lem}
 use Rattle.judge.proofs.Newest.{none_there, newest_entry, kept_all}
 use Rattle.judge.proofs.Verdicts.{head_is, entries_are, journal_is, body_sound}
+use Rattle.reads.specs.Inner.Room.{has_room, slot_in}
+use Rattle.reads.proofs.Lent.{room_is, lent_is}
 
 -- ---- the held read of some entries, by how many are kept
 module _ (a : List ℕ) where
@@ -55,6 +61,14 @@ module _ (a : List ℕ) where
     cases : (b : Bool) → is_standing (entry_at a (entry_start k)) ≡ b → ((length (standing (entries_to k a)) ≡ 0 → ⊥) → is_standing (entry_at a (entry_start (newest_at (entries_to k a)))) ≡ true) → is_standing (entry_at a (entry_start (newest_at (entries_to (suc k) a)))) ≡ true
     cases true e rest = rw (e, length_entries k a) e
     cases false e rest = rw e (rest (rw e at h))
+
+none_comes_before : (es : List Entry) → length (standing es) ≡ 0 → newest_at es ≡ 0
+unfolding those newest_at
+none_comes_before [] h = refl
+none_comes_before (e ∷ es) h = cases (is_standing e) refl (none_comes_before es) where
+  cases : (b : Bool) → is_standing e ≡ b → (length (standing es) ≡ 0 → newest_at es ≡ 0) → newest_at (e ∷ es) ≡ 0
+  cases true s rest = absurd (omega (arith, rw s at h))
+  cases false s rest = rw s (rest (rw s at h))
 
 -- ---- a sound area
 module _ (a : List ℕ) (t : Summary) (is : Counted a t) where
@@ -140,3 +154,42 @@ module _ (a : List ℕ) (t : Summary) (is : Counted a t) where
 
   pub held_in : (t.counts.kept ≡ t.entries → ⊥) → Some (entry_at body (entry_start t.counts.kept)) ≡ held_of (journal_of a).entries
   held_in h = rw in_body (sym (one_held body t.entries t.counts.kept keeps h).1)
+
+  -- ---- the same as it is lent to a question, from the head's end on
+  lent_body : drop (head_bytes t.head) a ≡ body
+  unfolding body_of
+  lent_body = ap (λ (h : Head). drop (head_bytes h) a) head_of_lem
+
+  part_is : {start : ℕ} → start ≡ head_bytes t.head → take (length a - start) (drop start a) ≡ body
+  part_is starts = lent_is a t.head starts ∙ lent_body
+
+  module _ (some : t.counts.standing ≡ 0 → ⊥) where
+    pub newest_room : has_room a t.head (suc t.counts.newest) ≡ true
+    newest_room = room_is a t.head (suc t.counts.newest) is.long (omega (arith, few, newest_below some))
+
+    pub lent_last : {start : ℕ} → start ≡ head_bytes t.head → standing (journal_of a).entries ≡ entry_at (take (length a - start) (drop start a)) (entry_start t.counts.newest) ∷ standing (entries_to t.counts.newest (take (length a - start) (drop start a)))
+    lent_last starts = rw (part_is starts) (last_stands some)
+
+    pub newest_in : slot_in a t.head t.counts.newest ≡ slot_at (standing (journal_of a).entries) 0
+    unfolding slot_in slot_at
+    newest_in = rw (newest_room, lent_body, last_stands some)
+
+  pub no_room : has_room a t.head (suc t.counts.newest) ≡ false → standing (journal_of a).entries ≡ []
+  no_room h = cases (eqb t.counts.standing 0) refl where
+    cases : (b : Bool) → eqb t.counts.standing 0 ≡ b → standing (journal_of a).entries ≡ []
+    cases true z = none_stand (eqb-true _ _ z)
+    cases false z = false_is (sym h ∙ newest_room (eqb-false _ _ z))
+
+  all_stand : (b : Bool) → ltb 0 t.counts.standing ≡ b → standing (entries_to (t.counts.newest + bool_byte b) body) ≡ standing (journal_of a).entries
+  unfolding entries_to those
+  all_stand true h = to_newest (λ z. omega (arith, ltb-true 0 t.counts.standing h))
+  all_stand false h =
+      let none : t.counts.standing ≡ 0 = omega (arith, ltb-false 0 t.counts.standing h) in
+      rw (newest_of_all, none_comes_before (entries_to t.entries body) (sym stand_of_all ∙ none), none_stand none)
+
+  pub lent_all : {start : ℕ} → start ≡ head_bytes t.head → standing (entries_to (t.counts.newest + bool_byte (ltb 0 t.counts.standing)) (take (length a - start) (drop start a))) ≡ standing (journal_of a).entries
+  lent_all starts = rw (part_is starts) (all_stand (ltb 0 t.counts.standing) refl)
+
+  pub slot_held : (t.counts.kept ≡ t.entries → ⊥) → slot_in a t.head t.counts.kept ≡ held_of (journal_of a).entries
+  unfolding slot_in
+  slot_held h = rw (room_is a t.head (suc t.counts.kept) is.long (omega (arith, few, held_below h)), lent_body) (held_in h)

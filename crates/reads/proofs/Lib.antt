@@ -1,3 +1,4 @@
+pub mod Lent
 pub mod Days
 pub mod Searched
 pub mod Counted

@@ -6,7 +6,8 @@ use mathlib.Core.List.{List, [], ◌∷◌}
 use Prim.Native.Nat.{ℕ, suc, ◌+◌, ◌≤◌, ◌<◌}
 use native.Mathlib.Omega.{arith}
 use borrow.Author.Tests.{ltb-true, leb-true, leb-false, lt-ltb, le-ltb, le-leb, lt-leb, ne_eqb, eqb-false}
-use lib.Dec.{eqb, leb}
+use mir.Val.{bool_byte}
+use lib.Dec.{eqb, leb, ltb}
 use lib.ListN.{length}
 use Rattle.terms.specs.declared.entry.Entry.{Entry}
 use Rattle.terms.specs.Entry.{is_standing, those, slot_at}
@@ -79,12 +80,12 @@ module _ (day : ℕ) where
   unfolding not_found search_answer on_day days_compared those any
   none_standing ss none = rw none
 
-  pub newest_earlier : (ss : List Entry) → (length ss ≡ 0 → ⊥) → days_rise ss ≡ true → day_of (slot_at ss 0) < day → not_found 1 ≡ search_answer day ss
+  pub newest_earlier : (ss : List Entry) {n : ℕ} → n ≡ length ss → days_rise ss ≡ true → day_of (slot_at ss 0) < day → not_found (bool_byte (ltb 0 n)) ≡ search_answer day ss
   unfolding search_from not_found ends_at day_of slot_at
-  newest_earlier [] some r l = absurd (some refl)
-  newest_earlier (s ∷ ss) some r l =
+  newest_earlier [] is r l = rw is (none_standing [] refl)
+  newest_earlier (s ∷ ss) {n} is r l =
       let other : s.day ≡ day → ⊥ = λ e. omega arith in
-      rw (← search_right (s ∷ ss) r, le-leb s.day day (omega arith), ne_eqb s.day day other)
+      rw (lt-ltb 0 n (omega (arith, is)), ← search_right (s ∷ ss) r, le-leb s.day day (omega arith), ne_eqb s.day day other)
 
 -- ---- one entry of a body, from the newest back
 module _ (a : List ℕ) (day compared : ℕ) {m k : ℕ} (one : m ≡ suc k) where

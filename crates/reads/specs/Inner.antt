@@ -1,2 +1,3 @@
--- What only proofs and inner contracts need: which entries a step back takes off.
+-- What only proofs and inner contracts need: which entries can be read at all.
+pub mod Room
 pub mod Back

@@ -1,17 +1,17 @@
 // The first value that a report counts from.
 ghost use Rattle.std.specs.Prelude.{◌≡◌};
-ghost use Rattle.journal.specs.Journal.{journal_of, standing};
+ghost use Rattle.journal.specs.Journal.{Journal, standing};
 ghost use Rattle.journal.specs.Total.{first_in};
+ghost use Rattle.judge.specs.Inner.Judged.{summary_of};
 
-use judge::sound::Sound;
+use judge::area::Summary;
 
 // That of the carry where there is one, and else that of the first standing read.
-pub fn first(journal: &Sound) -> u32
-    ensures { result ≡ first_in (journal_of journal.now.area.now).head (standing (journal_of journal.now.area.now).entries) }
+pub fn first(t: Summary) -> u32
+    ensures { (j : Journal) → t ≡ summary_of j → result ≡ first_in j.head (standing j.entries) }
 {
-    let head = journal.summary.head;
-    if head.carried {
-        return head.carry.first;
+    if t.head.carried {
+        return t.head.carry.first;
     }
-    journal.summary.counts.first
+    t.counts.first
 }

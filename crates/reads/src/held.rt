@@ -1,18 +1,18 @@
 // The held read.
 ghost use Rattle.std.specs.Prelude.{◌≡◌};
 ghost use Rattle.journal.specs.Journal.{journal_of, held_of};
+ghost use Rattle.judge.specs.Inner.Judged.{Counted};
 
-use crate::entries::entry_in;
-use judge::sound::Sound;
+use crate::room::entry_in;
+use judge::area::Summary;
 use terms::entry::Entry;
 
 // All entries but a held one are kept, and a held one is the last.
-pub fn held(journal: &Sound) -> Option<Entry>
-    ensures { result ≡ held_of (journal_of journal.now.area.now).entries }
+pub fn held(area: &[u8], t: Summary) -> Option<Entry>
+    ensures { Counted area.now t → result ≡ held_of (journal_of area.now).entries }
 {
-    let kept = journal.summary.counts.kept;
-    if kept == journal.summary.entries {
+    if t.counts.kept == t.entries {
         return None;
     }
-    Some(entry_in(journal, kept))
+    entry_in(area, t.head, t.counts.kept)
 }

@@ -3,11 +3,13 @@ ghost use Rattle.std.specs.Prelude.{◌≡◌, ◌∷◌, ◌+◌, ◌≤◌, le
 ghost use Rattle.terms.specs.Entry.{slot_at, recent_of};
 ghost use Rattle.register.specs.Entries.{entry_start, entry_at};
 ghost use Rattle.journal.specs.Journal.{journal_of, entries_to, standing};
+ghost use Rattle.judge.specs.Inner.Judged.{Counted};
 ghost use Rattle.reads.specs.Inner.Back.{EndsStanding};
 
-use crate::entries::{body_of, entry_at, entry_in};
-use judge::sound::Sound;
+use crate::room::{entry_at, entry_in, has_entry};
+use judge::area::Summary;
 use register::area::Layout;
+use register::head::head_bytes;
 use terms::entry::{Entry, Kind, Recent};
 
 // How many of the first m entries are left when those after the last standing one are taken off.
@@ -56,34 +58,39 @@ fn recent_over(body: &[u8], newest: u8) -> Recent
 }
 
 // The last three standing reads.
-pub fn recent(journal: &Sound) -> Recent
-    ensures { result ≡ recent_of (standing (journal_of journal.now.area.now).entries) }
+pub fn recent(area: &[u8], t: Summary) -> Recent
+    ensures { Counted area.now t → result ≡ recent_of (standing (journal_of area.now).entries) }
 {
-    let counts = journal.summary.counts;
-    if counts.standing == 0 {
+    if t.counts.standing == 0 {
         return Recent::NONE;
     }
-    recent_over(body_of(journal), counts.newest)
+    if !has_entry(area, t.head, t.counts.newest) {
+        return Recent::NONE;
+    }
+    let start = head_bytes(t.head);
+    recent_over(&area[start..], t.counts.newest)
 }
 
 // The last standing read.
-pub fn last(journal: &Sound) -> Option<Entry>
-    ensures { result ≡ slot_at (standing (journal_of journal.now.area.now).entries) 0 }
+pub fn last(area: &[u8], t: Summary) -> Option<Entry>
+    ensures { Counted area.now t → result ≡ slot_at (standing (journal_of area.now).entries) 0 }
 {
-    let counts = journal.summary.counts;
-    if counts.standing == 0 {
+    if t.counts.standing == 0 {
         return None;
     }
-    Some(entry_in(journal, counts.newest))
+    entry_in(area, t.head, t.counts.newest)
 }
 
 // The second last standing read. There is none where one read stands alone.
-pub fn second(journal: &Sound) -> Option<Entry>
-    ensures { result ≡ slot_at (standing (journal_of journal.now.area.now).entries) 1 }
+pub fn second(area: &[u8], t: Summary) -> Option<Entry>
+    ensures { Counted area.now t → result ≡ slot_at (standing (journal_of area.now).entries) 1 }
 {
-    let counts = journal.summary.counts;
-    if counts.standing < 2 {
+    if t.counts.standing < 2 {
         return None;
     }
-    last_over(body_of(journal), counts.newest)
+    if !has_entry(area, t.head, t.counts.newest) {
+        return None;
+    }
+    let start = head_bytes(t.head);
+    last_over(&area[start..], t.counts.newest)
 }

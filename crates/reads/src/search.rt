@@ -2,11 +2,13 @@
 ghost use Rattle.std.specs.Prelude.{◌≡◌, ◌≤◌, ◌<◌, length};
 ghost use Rattle.register.specs.Entries.{entry_start};
 ghost use Rattle.journal.specs.Journal.{journal_of, entries_to, standing};
+ghost use Rattle.judge.specs.Inner.Judged.{Counted};
 ghost use Rattle.reads.specs.Search.{not_found, ends_at, search_from, search_answer};
 
-use crate::entries::{body_of, entry_at};
+use crate::room::{entry_at, has_entry};
 use journal::order::is_standing;
-use judge::sound::Sound;
+use judge::area::Summary;
+use register::head::head_bytes;
 use terms::entry::Entry;
 
 #[derive(Clone, Copy)]
@@ -60,16 +62,18 @@ fn search_back(body: &[u8], m: u8, day: u16) -> Search
     not_found(later)
 }
 
-// The search begins at the newest standing read. Its day is known, so a day after it is compared with that one and needs no entry.
-pub fn search_day(journal: &Sound, day: u16) -> Search
-    ensures { result ≡ search_answer day (standing (journal_of journal.now.area.now).entries) }
+// The search begins at the newest standing read. Its day is known, so a day after it is compared with that one and needs no entry. Where none
+// stands `newest` is 0, no entry is searched and nothing is compared.
+pub fn search_day(area: &[u8], t: Summary, day: u16) -> Search
+    ensures { Counted area.now t → result ≡ search_answer day (standing (journal_of area.now).entries) }
 {
-    let counts = journal.summary.counts;
-    if counts.standing == 0 {
+    let stands = (0 < t.counts.standing) as u8;
+    if t.day < day {
+        return not_found(stands);
+    }
+    if !has_entry(area, t.head, t.counts.newest) {
         return not_found(0);
     }
-    if journal.summary.day < day {
-        return not_found(1);
-    }
-    search_back(body_of(journal), counts.newest + 1, day)
+    let start = head_bytes(t.head);
+    search_back(&area[start..], t.counts.newest + stands, day)
 }

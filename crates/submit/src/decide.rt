@@ -14,7 +14,7 @@ use crate::order::check_order;
 use crate::same_day::check_same_day;
 use judge::area::judge_area;
 use judge::sound::Sound;
-use reads::recent::recent;
+use reads::sound::recent;
 use register::head::offset_after;
 use rules::detection::detect;
 use rules::indicator::indicate;
@@ -26,7 +26,7 @@ use terms::submission::Submission;
 
 // How a read is written, and what is answered with it.
 #[derive(Clone, Copy)]
-pub(crate) struct Decision {
+pub struct Decision {
     // The byte of the area at which its entry starts.
     pub at: u16,
     pub entry: Entry,

@@ -2,7 +2,7 @@
 #![tactic(auto)]
 
 mod content;
-mod decide;
+pub mod decide;
 mod order;
 mod same_day;
 pub mod submit;

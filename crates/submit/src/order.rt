@@ -8,7 +8,7 @@ ghost use Rattle.calls.specs.Checks.{is_bad_date, is_back_dated, is_unopened, is
 
 use journal::order::has_read;
 use judge::sound::Sound;
-use reads::held::held;
+use reads::sound::held;
 use register::head::most_entries;
 use terms::entry::Entry;
 use terms::letter::{Letter, is_opening};

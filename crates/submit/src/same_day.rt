@@ -7,7 +7,7 @@ ghost use Rattle.journal.specs.Journal.{journal_of};
 ghost use Rattle.calls.specs.Checks.{is_repeat, is_other_indicator, same_day_rules};
 
 use judge::sound::Sound;
-use reads::found::read_on;
+use reads::sound::read_on;
 use terms::entry::Entry;
 use terms::letter::Letter;
 use terms::refusal::Refusal;

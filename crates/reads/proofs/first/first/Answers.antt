@@ -11,12 +11,12 @@ by_summary : (j : Journal) (t : Summary) → t ≡ summary_of j → cond t.head.
 unfolding first_in summary_of counts_of
 by_summary j t e = rw e
 
-pub returns-then-head : goal.returns-then-head
-returns-then-head c =
-    let t = c.args.journal.now.summary in
-    sym (ap (λ (b : Bool). cond b t.head.carry.first t.counts.first) c.if-head.true) ∙ by_summary _ t c.args.journal.now.counted.summary
+pub returns-then-t : goal.returns-then-t
+returns-then-t c = λ j e.
+    let t = c.args.t in
+    sym (ap (λ (b : Bool). cond b t.head.carry.first t.counts.first) c.if-t.true) ∙ by_summary j t e
 
 pub returns : goal.returns
-returns c =
-    let t = c.args.journal.now.summary in
-    sym (ap (λ (b : Bool). cond b t.head.carry.first t.counts.first) c.if-head.false) ∙ by_summary _ t c.args.journal.now.counted.summary
+returns c = λ j e.
+    let t = c.args.t in
+    sym (ap (λ (b : Bool). cond b t.head.carry.first t.counts.first) c.if-t.false) ∙ by_summary j t e

@@ -5,4 +5,4 @@ use Rattle.reads.proofs.found.read_on.Goals as goal
 
 pub returns : goal.returns
 unfolding search_answer
-returns c = ap (λ (s : Search). s.found) c.search_day.ensures
+returns c = λ is. ap (λ (s : Search). s.found) (c.search_day.ensures is)

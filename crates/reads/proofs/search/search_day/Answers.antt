@@ -1,30 +1,43 @@
 -- A later day than the last one's is compared with that one alone; else the entries that are searched are all that stand.
-use mathlib.Core.Path.{◌∙◌}
+use mathlib.Core.Path.{sym, ◌∙◌}
+use mathlib.Core.Bool.{Bool, true, false}
+use Prim.Native.Nat.{◌≤◌}
 use native.Mathlib.Omega.{arith}
-use Rattle.reads.proofs.Counted.{rises, day_is, stands_is, none_stand, newest_below, to_newest, room, few_entries}
+use lib.Dec.{ltb}
+use mir.Val.{bool_byte}
+use Rattle.reads.proofs.Lent.{few_entries, lent_room, start_room}
+use Rattle.reads.proofs.Counted.{rises, day_is, stands_is, no_room, lent_all}
 use Rattle.reads.proofs.Searched.{search_right, none_standing, newest_earlier}
 use Rattle.reads.proofs.search.search_day.Goals as goal
 
-pub returns-then-counts-eq0 : goal.returns-then-counts-eq0
-returns-then-counts-eq0 c = c.not_found.ensures ∙ none_standing _ _ (none_stand _ _ c.args.journal.now.counted c.if-counts-eq0.true)
+one_at_most : (b : Bool) → bool_byte b ≤ 1
+one_at_most true = omega arith
+one_at_most false = omega arith
 
-pub returns-then-journal-day : goal.returns-then-journal-day
-returns-then-journal-day c =
-    let is = c.args.journal.now.counted in
-    c.not_found-then-journal-day.ensures
-    ∙ newest_earlier _ _ (λ z. c.if-counts-eq0.false (stands_is _ _ is ∙ z)) (rises _ _ is) (omega (arith, day_is _ _ is, c.if-journal-day.true))
+pub returns-then-t-day : goal.returns-then-t-day
+returns-then-t-day c =
+    let t = c.args.t in
+    λ is. c.not_found.ensures ∙ newest_earlier _ _ (stands_is _ t is) (rises _ t is) (omega (arith, day_is _ t is, c.if-t-day.true))
 
-pub overflow_add-counts : goal.overflow_add-counts
-overflow_add-counts c =
-    let is = c.args.journal.now.counted in
-    omega (arith, few_entries _ _ is, newest_below _ _ is c.if-counts-eq0.false)
+pub returns-then-not-has_entry : goal.returns-then-not-has_entry
+returns-then-not-has_entry c =
+    λ is. c.not_found-then-not-has_entry.ensures ∙ none_standing _ _ (no_room _ _ is (sym c.has_entry.ensures ∙ c.if-not-has_entry.true))
+
+pub slice_bounds-search_back-count : goal.slice_bounds-search_back-count
+slice_bounds-search_back-count c = start_room _ c.args.t.head _ (sym c.has_entry.ensures ∙ c.if-not-has_entry.false) c.head_bytes-start.ensures
+
+pub slice_bounds-search_back-start : goal.slice_bounds-search_back-start
+slice_bounds-search_back-start c = start_room _ c.args.t.head _ (sym c.has_entry.ensures ∙ c.if-not-has_entry.false) c.head_bytes-start.ensures
+
+pub overflow_add-t : goal.overflow_add-t
+overflow_add-t c =
+    omega (arith, few_entries _ c.args.t.head _ (sym c.has_entry.ensures ∙ c.if-not-has_entry.false) c.head_bytes-start.ensures, one_at_most (ltb 0 c.args.t.counts.standing))
 
 pub search_back-requires : goal.search_back-requires
 search_back-requires c =
-    let is = c.args.journal.now.counted in
-    rw c.body_of.ensures (omega (arith, room _ _ is, newest_below _ _ is c.if-counts-eq0.false))
+    omega (arith, lent_room _ c.args.t.head _ (sym c.has_entry.ensures ∙ c.if-not-has_entry.false) c.head_bytes-start.ensures, one_at_most (ltb 0 c.args.t.counts.standing))
 
 pub returns : goal.returns
 returns c =
-    let is = c.args.journal.now.counted in
-    c.search_back.ensures ∙ rw (c.body_of.ensures, to_newest _ _ is c.if-counts-eq0.false) (search_right _ _ (rises _ _ is))
+    let t = c.args.t in
+    λ is. rw (lent_all _ t is c.head_bytes-start.ensures) at c.search_back.ensures ∙ search_right _ _ (rises _ t is)
