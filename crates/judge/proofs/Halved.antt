@@ -1,7 +1,7 @@
--- The standing entries in their order: what halving finds among them, and what their marks rule out.
+-- The standing entries by their places, in their order: what halving finds among them, and what their marks rule out.
 use mathlib.Core.Path.{◌≡◌, refl, ap, ◌∙◌}
 use mathlib.Core.Bool.{Bool, true, false, not, ◌&&◌, and-false}
-use mathlib.Core.List.{List, [], ◌∷◌}
+use mathlib.Core.List.{List, [], ◌∷◌, map}
 use Prim.Native.Nat.{ℕ, zero, suc, ◌+◌, ◌-◌, ◌≤◌, ◌<◌}
 use native.Mathlib.Numerals.{add-one}
 use native.Mathlib.Omega.{arith}
@@ -11,12 +11,12 @@ use lib.ListN.{length, get_or, set, take}
 use Rattle.std.specs.Prelude.{reverse}
 use Rattle.std.specs.List.Sorted.{IsPartitionedBy, IsPartitionPoint}
 use Rattle.std.proofs.Math.Seq.{take_all, take-suc, take-suc-set}
-use Rattle.std.proofs.lemmas.List.{reverse-append}
-use Rattle.std.proofs.lemmas.List.Sums.{fold_more}
+use Rattle.std.proofs.lemmas.List.{reverse-append, map-append}
+use Rattle.std.proofs.lemmas.List.Sums.{fold-append}
 use Rattle.std.proofs.lemmas.List.Sorted.{IsNonDecreasingBy-from_default, IsPartitionedBy-ltb}
 use Rattle.terms.specs.declared.entry.Entry.{Entry}
 use Rattle.terms.specs.Entry.{is_withdrawn, keep_if, slot_at}
-use Rattle.register.specs.Entries.{entry_start, entry_at, zero_entry}
+use Rattle.register.specs.Entries.{entry_start, entry_at}
 use Rattle.journal.specs.Journal.{entries_to, withdrawn, day_of}
 use Rattle.journal.specs.Sound.{any, every, has_read, are_apart, days_rise, is_later}
 use Rattle.judge.specs.Inner.Halving.{value_marks}
@@ -26,29 +26,31 @@ use Rattle.journal.proofs.Entries.{those_more}
 use Rattle.judge.proofs.Bits.{unmarked}
 use Rattle.judge.proofs.Clashes.{none_stands}
 
--- one more noted after n
-pub noted : (room : List Entry) (n : ℕ) (e : Entry) → n < length room → reverse (take (n + 1) (set room n e)) ≡ e ∷ reverse (take n room)
-noted room n e h = rw (add-one n, take-suc-set room n e h) (reverse-append (take n room) (e ∷ []))
-
 last : (n : ℕ) → suc n - 1 ≡ n
 last n = omega arith
 
-module _ (ss : List Entry) where
-  abbrev at : ℕ → Entry
-  at i = get_or ss i zero_entry
+module _ (read : ℕ → Entry) where
+  -- one more noted after n
+  pub noted : (room : List ℕ) (n k : ℕ) → n < length room → reverse (map read (take (n + 1) (set room n k))) ≡ read k ∷ reverse (map read (take n room))
+  noted room n k h = rw (add-one n, take-suc-set room n k h, map-append) (reverse-append (map read (take n room)) (read k ∷ []))
 
-  -- the first n of them, the last first
+module _ (read : ℕ → Entry) (places : List ℕ) where
+  abbrev at : ℕ → Entry
+  at i = read (get_or places i 0)
+
+  -- those at the first n places, the last first
   back : ℕ → List Entry
   back zero = []
   back (suc n) = at n ∷ back n
 
-  back_is : (n : ℕ) → n ≤ length ss → back n ≡ reverse (take n ss)
+  back_is : (n : ℕ) → n ≤ length places → back n ≡ reverse (map read (take n places))
   unfolding back
   back_is zero h = refl
-  back_is (suc n) h = rw (take-suc ss n zero_entry (omega arith), reverse-append (take n ss) (at n ∷ []), back_is n (omega arith))
+  back_is (suc n) h =
+      rw (take-suc places n 0 (omega arith), map-append, reverse-append (map read (take n places)) (at n ∷ []), back_is n (omega arith))
 
-  back_all : back (length ss) ≡ reverse ss
-  back_all = back_is (length ss) (omega arith) ∙ ap reverse (take_all (length ss) ss (omega arith))
+  back_all : back (length places) ≡ reverse (map read places)
+  back_all = back_is (length places) (omega arith) ∙ ap (λ ps. reverse (map read ps)) (take_all (length places) places (omega arith))
 
   back_rise : (n : ℕ) → days_rise (back (suc n)) ≡ true → days_rise (back n) ≡ true
   unfolding back days_rise
@@ -79,11 +81,11 @@ module _ (ss : List Entry) where
             let other : i ≡ n → ⊥ = eqb-false i n e in
             omega (arith, rest (omega arith))
 
-  module _ (rises : days_rise (reverse ss) ≡ true) where
-    rises_to : (j : ℕ) → j ≤ length ss → days_rise (back j) ≡ true
-    rises_to j h = rise_to (length ss) j h (rw back_all rises)
+  module _ (rises : days_rise (reverse (map read places)) ≡ true) where
+    rises_to : (j : ℕ) → j ≤ length places → days_rise (back j) ≡ true
+    rises_to j h = rise_to (length places) j h (rw back_all rises)
 
-    days_ordered : (i j : ℕ) → i ≤ j → j < length ss → (at i).day ≤ (at j).day
+    days_ordered : (i j : ℕ) → i ≤ j → j < length places → (at i).day ≤ (at j).day
     days_ordered i j h l = cases (eqb i j) refl where
       cases : (b : Bool) → eqb i j ≡ b → (at i).day ≤ (at j).day
       cases true e = rw (eqb-true i j e) (omega arith)
@@ -91,12 +93,12 @@ module _ (ss : List Entry) where
           let other : i ≡ j → ⊥ = eqb-false i j e in
           omega (arith, earlier j i (rises_to (suc j) (omega arith)) (omega arith))
 
-    pub halved : (day : ℕ) → IsPartitionedBy (λ s. ltb s.day day) ss
-    halved day = IsPartitionedBy-ltb (λ s. s.day) ss day (IsNonDecreasingBy-from_default (λ s. s.day) ss zero_entry days_ordered)
+    pub halved : (day : ℕ) → IsPartitionedBy (λ k. ltb (read k).day day) places
+    halved day = IsPartitionedBy-ltb (λ k. (read k).day) places day (IsNonDecreasingBy-from_default (λ k. (read k).day) places 0 days_ordered)
 
     module _ (day value : ℕ) where
       -- the day is after the first n
-      none_before : (n : ℕ) → n ≤ length ss → (0 < n → (at (n - 1)).day < day) → any (has_read day value) (back n) ≡ false
+      none_before : (n : ℕ) → n ≤ length places → (0 < n → (at (n - 1)).day < day) → any (has_read day value) (back n) ≡ false
       unfolding back any day_of slot_at
       none_before zero l h = refl
       none_before (suc n) l h = none_stands day value (back (suc n)) (rises_to (suc n) l) (rw (last n) at (h (omega arith)))
@@ -106,7 +108,7 @@ module _ (ss : List Entry) where
       of_another_day e h = rw (ne_eqb e.day day h)
 
       -- the first one from the day on is the only one that can be of that day
-      one_from : (n low : ℕ) → n ≤ length ss → low < n → (0 < low → (at (low - 1)).day < day) → day ≤ (at low).day → any (has_read day value) (back n) ≡ has_read day value (at low)
+      one_from : (n low : ℕ) → n ≤ length places → low < n → (0 < low → (at (low - 1)).day < day) → day ≤ (at low).day → any (has_read day value) (back n) ≡ has_read day value (at low)
       unfolding back any
       one_from zero low l h b f = absurd (omega arith)
       one_from (suc n) low l h b f = cases (λ less. one_from n low (omega arith) less b f) (eqb low n) refl where
@@ -121,29 +123,30 @@ module _ (ss : List Entry) where
             rw (of_another_day (at n) later) (rest less)
 
       -- where halving ends
-      module _ {i : ℕ} (point : IsPartitionPoint (λ s. ltb s.day day ≡ true) (λ s. ltb s.day day ≡ false) ss i) where
+      module _ {i : ℕ} (point : IsPartitionPoint (λ k. ltb (read k).day day ≡ true) (λ k. ltb (read k).day day ≡ false) places i) where
         before : 0 < i → (at (i - 1)).day < day
-        before h = ltb-true _ _ (point.0 (i - 1) zero_entry (omega arith) (omega arith))
+        before h = ltb-true _ _ (point.0 (i - 1) 0 (omega arith) (omega arith))
 
-        pub none_found : length ss ≤ i → i ≤ length ss → any (has_read day value) (reverse ss) ≡ false
+        pub none_found : length places ≤ i → i ≤ length places → any (has_read day value) (reverse (map read places)) ≡ false
         none_found h l =
-            let e : i ≡ length ss = omega arith in
-            rw (← back_all) (none_before (length ss) (omega arith) (rw e at before))
+            let e : i ≡ length places = omega arith in
+            rw (← back_all) (none_before (length places) (omega arith) (rw e at before))
 
-        pub one_found : i < length ss → any (has_read day value) (reverse ss) ≡ has_read day value (at i)
-        one_found h = rw (← back_all) (one_from (length ss) i (omega arith) h before (ltb-false _ _ (point.1 i zero_entry (omega arith) h)))
+        pub one_found : i < length places → any (has_read day value) (reverse (map read places)) ≡ has_read day value (at i)
+        one_found h = rw (← back_all) (one_from (length places) i (omega arith) h before (ltb-false _ _ (point.1 i 0 (omega arith) h)))
 
   -- a value that none of them marked
-  unmarked_to : (day value n : ℕ) → n ≤ length ss → is_marked (value_marks (take n ss)) value ≡ false → any (has_read day value) (back n) ≡ false
+  unmarked_to : (day value n : ℕ) → n ≤ length places → is_marked (value_marks (map read (take n places))) value ≡ false → any (has_read day value) (back n) ≡ false
   unfolding back any has_read
   unmarked_to day value zero h u = refl
   unmarked_to day value (suc n) h u =
-      let more = rw (add-one n) at (fold_more (λ (marks : ℕ) (s : Entry). mark_on marks s.value) 0 ss n zero_entry (omega arith)) in
-      let free = unmarked (value_marks (take n ss)) (at n).value value (rw more at u) in
+      let more = rw (take-suc places n 0 (omega arith), map-append, fold-append (λ (marks : ℕ) (s : Entry). mark_on marks s.value) 0 (map read (take n places)) (at n ∷ [])) at u in
+      let free = unmarked (value_marks (map read (take n places))) (at n).value value more in
       rw (ne_eqb (at n).value value free.0, and-false) (unmarked_to day value n (omega arith) free.1)
 
-pub none_valued : (day value : ℕ) (ss : List Entry) → is_marked (value_marks ss) value ≡ false → any (has_read day value) (reverse ss) ≡ false
-none_valued day value ss u = rw (← back_all ss) (unmarked_to ss day value (length ss) (omega arith) (rw (take_all (length ss) ss (omega arith)) u))
+  pub none_valued : (day value : ℕ) → is_marked (value_marks (map read places)) value ≡ false → any (has_read day value) (reverse (map read places)) ≡ false
+  none_valued day value u =
+      rw (← back_all) (unmarked_to day value (length places) (omega arith) (rw (take_all (length places) places (omega arith)) u))
 
 -- ---- one withdrawn entry after the other
 apart_kept : (b : Bool) (e : Entry) (ss ws : List Entry) → are_apart ss (keep_if b e ws) ≡ not (b && any (has_read e.day e.value) ss) && are_apart ss ws

@@ -14,7 +14,7 @@ const BUCKETS: usize = 256;
 // Above every position, since no journal has so many entries.
 const CROWDED: u8 = 255;
 
-#[derive(Drop)]
+#[derive(Clone, Copy)]
 pub struct Index {
     pub buckets: [u8; BUCKETS],
 }

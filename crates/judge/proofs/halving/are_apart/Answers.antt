@@ -11,7 +11,7 @@ unfolding are_apart every those entries_to
 loop-k-init c = refl
 
 pub returns-then-stands_again : goal.returns-then-stands_again
-returns-then-stands_again c = sym (apart_ends _ _ _ c.at.ensures (rw c.standing_in-ss.ensures at c.stands_again.ensures) _ c.loop-k-test.true c.if-stands_again.true)
+returns-then-stands_again c = sym (apart_ends _ _ _ c.at.ensures (rw c.standing_in-places.ensures at c.stands_again.ensures) _ c.loop-k-test.true c.if-stands_again.true)
 
 pub loop-k-preserved : goal.loop-k-preserved
-loop-k-preserved c = apart_on _ _ _ c.at.ensures (rw c.standing_in-ss.ensures at c.stands_again.ensures) c.if-stands_again.false c.loop-k.invariant
+loop-k-preserved c = apart_on _ _ _ c.at.ensures (rw c.standing_in-places.ensures at c.stands_again.ensures) c.if-stands_again.false c.loop-k.invariant

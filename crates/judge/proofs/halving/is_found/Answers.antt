@@ -4,17 +4,20 @@ use lib.Dec.{ltb}
 use borrow.Author.Tests.{le-ltb}
 use Rattle.std.proofs.Common.{rules}
 use Rattle.std.proofs.lemmas.List.Sorted.{IsPartitionPoint-from_clause}
+use Rattle.judge.specs.Inner.Halving.{seen}
 use Rattle.judge.proofs.Halved.{halved, none_found, one_found}
 use Rattle.judge.proofs.halving.is_found.Goals as goal
 
-pub returns-then-i-ss : goal.returns-then-i-ss
-returns-then-i-ss c =
-    let ss = c.args.ss.now in
-    let point = IsPartitionPoint-from_clause (λ s. ltb s.day c.args.day) ss c.partition_point-i.result c.partition_point-i.ensures.partitioned (halved ss c.requires c.args.day) (λ a r f k. search rules) in
-    c.has_read.ensures ∙ sym (one_found ss c.requires c.args.day c.args.value point c.if-i-ss.true)
+pub returns-then-i-places : goal.returns-then-i-places
+returns-then-i-places c =
+    let read = seen c.args.body c.args.m in
+    let places = c.args.places.now in
+    let point = IsPartitionPoint-from_clause (λ k. ltb (read k).day c.args.day) places c.partition_point-i.result c.partition_point-i.ensures.partitioned (halved read places c.requires.rising c.args.day) (λ a r f k. search rules) in
+    rw c.seen.ensures at c.has_read.ensures ∙ sym (one_found read places c.requires.rising c.args.day c.args.value point c.if-i-places.true)
 
-pub returns-else-i-ss : goal.returns-else-i-ss
-returns-else-i-ss c =
-    let ss = c.args.ss.now in
-    let point = IsPartitionPoint-from_clause (λ s. ltb s.day c.args.day) ss c.partition_point-i.result c.partition_point-i.ensures.partitioned (halved ss c.requires c.args.day) (λ a r f k. search rules) in
-    rw (le-ltb _ _ c.if-i-ss.false) (sym (none_found ss c.requires c.args.day c.args.value point c.if-i-ss.false c.partition_point-i.ensures.bound))
+pub returns-else-i-places : goal.returns-else-i-places
+returns-else-i-places c =
+    let read = seen c.args.body c.args.m in
+    let places = c.args.places.now in
+    let point = IsPartitionPoint-from_clause (λ k. ltb (read k).day c.args.day) places c.partition_point-i.result c.partition_point-i.ensures.partitioned (halved read places c.requires.rising c.args.day) (λ a r f k. search rules) in
+    rw (le-ltb _ _ c.if-i-places.false) (sym (none_found read places c.requires.rising c.args.day c.args.value point c.if-i-places.false c.partition_point-i.ensures.bound))

@@ -16,7 +16,7 @@ returns-then-last-e c =
 pub returns-else-is_marked : goal.returns-else-is_marked
 returns-else-is_marked c =
     let none = c.if-is_marked.false in
-    rw (none, none_valued _ _ _ (rw c.requires.marks_are at (sym c.is_marked.ensures ∙ none))) (sym (and-false (is_withdrawn c.args.e)))
+    rw (none, none_valued _ _ _ _ (rw c.requires.marks_are at (sym c.is_marked.ensures ∙ none))) (sym (and-false (is_withdrawn c.args.e)))
 
 pub returns-then-is_marked : goal.returns-then-is_marked
 returns-then-is_marked c = rw (← c.is_withdrawn.ensures, c.if-not-is_withdrawn.false) c.is_found.ensures
