@@ -1,3 +1,4 @@
 pub mod Signed
 pub mod Negated
+pub mod Table
 pub mod Laws

@@ -1,8 +1,8 @@
--- The text of a number: the library's, and how long it is.
-use mathlib.Core.Path.{◌≡◌, refl, sym}
+-- The text of a number: the library's, how long it is, and its last digit.
+use mathlib.Core.Path.{◌≡◌, refl, sym, ◌∙◌}
 use mathlib.Core.Bool.{Bool, true, false, cond}
-use mathlib.Core.List.{List}
-use Prim.Native.Nat.{ℕ, zero, suc, ◌/◌, ◌%◌, ◌^◌, ◌≤◌, ◌<◌}
+use mathlib.Core.List.{List, [], ◌∷◌, ◌++◌}
+use Prim.Native.Nat.{ℕ, zero, suc, ◌+◌, ◌/◌, ◌%◌, ◌^◌, ◌≤◌, ◌<◌}
 use native.Mathlib.Omega.{arith}
 use borrow.Author.Tests.{lt-ltb, le-ltb}
 use lib.Dec.{ltb}
@@ -10,7 +10,7 @@ use lib.IntN.{ℤ, pos, negsuc}
 use lib.ListN.{length, length-append}
 use lib.Signed.{mag}
 use Rattle.std.specs.Fmt as std
-use Rattle.std.proofs.lemmas.Fmt.{AppendsLastDigit, decimal_from_appends, length-decimal-le}
+use Rattle.std.proofs.lemmas.Fmt.{AppendsLastDigit, decimal_from_appends, decimal_digit, decimal_step, length-decimal-le}
 use Rattle.lines.specs.Decimal.{digits, digit_count_in, most_digits, digit_count, decimal, signed}
 
 -- ---- how long
@@ -48,6 +48,14 @@ pub decimal_text : (n : ℕ) → n < 2 ^ 64 → std.decimal n ≡ decimal n
 unfolding decimal digit_count counted
 decimal_text n h = sym (decimal_from_appends counted last_digit_last most_digits n h (length-decimal-le most_digits n (omega arith) (omega arith) h))
 
+-- ---- the last digit, and those before it
+pub decimal_one : (n : ℕ) → n < 10 → decimal n ≡ (48 + n) ∷ []
+decimal_one n h = sym (decimal_text n (omega arith)) ∙ decimal_digit n h
+
+pub decimal_more : (n : ℕ) → 10 ≤ n → n < 2 ^ 64 → decimal n ≡ decimal (n / 10) ++ ((48 + n % 10) ∷ [])
+decimal_more n h l = rw (← decimal_text n l, ← decimal_text (n / 10) (omega arith)) (decimal_step n h l)
+
+-- ---- a number with its sign
 pub signed_text : (z : ℤ) → mag z < 2 ^ 63 → std.signed_decimal z ≡ signed z
 unfolding signed
 signed_text (pos n) h = decimal_text n (omega (arith, h))

@@ -46,7 +46,7 @@ module _ (n : ℕ) (s : Submission) (flag : ℕ) (recent : Recent) where
     unfolding advance_over
     threshold_over = rw (h, e)
 
-    capacity_over : (capacity : ℕ) → has_volume_check s && not (is_within_capacity capacity a s (Some r0)) ≡ is_over_capacity n capacity s flag recent
+    pub capacity_over : (capacity : ℕ) → has_volume_check s && not (is_within_capacity capacity a s (Some r0)) ≡ is_over_capacity n capacity s flag recent
     unfolding advance_over is_over_capacity
     capacity_over capacity = rw (h, e)
 

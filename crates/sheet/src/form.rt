@@ -5,15 +5,15 @@ ghost use Rattle.sheet.specs.Sheet.{form_of, body_bytes};
 use terms::profile::Profile;
 
 // How long each form's body is.
-pub(crate) const ENROL_BYTES: u8 = 6;
+pub const ENROL_BYTES: u8 = 6;
 
-pub(crate) const SUBMIT_BYTES: u8 = 12;
+pub const SUBMIT_BYTES: u8 = 12;
 
-pub(crate) const WITHDRAW_BYTES: u8 = 7;
+pub const WITHDRAW_BYTES: u8 = 7;
 
-const REPORT_BYTES: u8 = 1;
+pub const REPORT_BYTES: u8 = 1;
 
-const FOLD_BYTES: u8 = 1;
+pub const FOLD_BYTES: u8 = 1;
 
 // One for each kind of call that a sheet may hold.
 #[derive(Clone, Copy)]

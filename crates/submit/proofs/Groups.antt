@@ -13,7 +13,7 @@ use Rattle.terms.specs.Number.{accepted}
 use Rattle.terms.specs.Refusal.{number_of}
 use Rattle.terms.specs.Rule.{Rule, first_broken}
 use Rattle.terms.proofs.Refusals.{refuses}
-use Rattle.calls.specs.Calls.{is_volume_query}
+use Rattle.calls.specs.Calls.{refused, is_volume_query}
 use Rattle.submit.specs.Inner.Decision.{carried_out, submitted}
 
 abbrev writes_nothing : ℕ → Bool
@@ -46,3 +46,12 @@ module _ (xs ys : List Rule) (quiet : all_write_nothing xs ≡ true) where
 
     pub goes_on : accepted ≡ first_broken xs → submitted s area (first_broken ys) ≡ submitted s area (first_broken (xs ++ ys))
     goes_on e = rw (in_turn xs ys quiet, ← e)
+
+    -- both at once
+    one_or_other : (none : Bool) → eqb (first_broken xs) accepted ≡ none → submitted s area (first_broken (xs ++ ys)) ≡ cond none (submitted s area (first_broken ys)) (refused (first_broken xs) area)
+    unfolding submitted
+    one_or_other true e = rw (in_turn xs ys quiet, e)
+    one_or_other false e = rw (in_turn xs ys quiet, e, e, no_query xs quiet)
+
+    pub one_group : submitted s area (first_broken (xs ++ ys)) ≡ cond (eqb (first_broken xs) accepted) (submitted s area (first_broken ys)) (refused (first_broken xs) area)
+    one_group = one_or_other (eqb (first_broken xs) accepted) refl

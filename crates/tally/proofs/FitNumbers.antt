@@ -1,6 +1,6 @@
 -- A tally's number is 0 just where it fits.
 use mathlib.Core.Path.{◌≡◌, refl}
-use mathlib.Core.Bool.{false}
+use mathlib.Core.Bool.{true, false}
 use mathlib.Core.List.{[], ◌∷◌}
 use native.Mathlib.Omega.{arith}
 use borrow.Author.Tests.{ne_eqb, ltb-false}
@@ -9,6 +9,7 @@ use Rattle.terms.specs.Number.{accepted, no_meter, damaged}
 use Rattle.terms.specs.Rule.{rule}
 use Rattle.journal.specs.Sound.{least_dials}
 use Rattle.journal.proofs.Bools.{neither}
+use Rattle.calls.proofs.Bools.{by_test}
 use Rattle.calls.proofs.Broken.{unbroken}
 use Rattle.tally.specs.declared.tally.Tally.{Tally}
 use Rattle.tally.specs.Tally.{is_zero, has_other_dials, is_no_value, most_standing, is_broken, tally_number}
@@ -46,3 +47,18 @@ number_fits t h =
       fewer = ltb-false _ _ b₄.0;
       few = ltb-false _ _ b₄.1;
     }
+
+-- ---- a tally of zeros reports 3, and no other does
+pub zero_number : (t : Tally) → is_zero t ≡ true → tally_number t ≡ no_meter
+unfolding tally_number
+zero_number t h = rw h
+
+pub number_zero : (t : Tally) → tally_number t ≡ no_meter → is_zero t ≡ true
+unfolding tally_number
+number_zero t h =
+    by_test (is_zero t)
+    (λ z. z)
+    (λ z.
+    by_test (is_broken t)
+    (λ b. absurd (let e : damaged ≡ no_meter = rw (z, b) at h in omega arith))
+    (λ b. absurd (let e : accepted ≡ no_meter = rw (z, b) at h in omega arith)))

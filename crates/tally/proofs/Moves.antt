@@ -6,8 +6,8 @@ use native.Mathlib.Nat.{mul_comm}
 use native.Mathlib.Omega.{arith}
 use borrow.Author.Tests.{lt-ltb, le-ltb, ltb-true}
 use lib.Dec.{ltb}
-use lib.IntN.{ℤ, pos, negsuc, nat_abs, ◌+ℤ◌, ◌-ℤ◌, +ℤ_assoc, +ℤ_comm, pos-+ℤ-pos}
-use lib.Signed.{non_neg}
+use lib.IntN.{ℤ, pos, negsuc, nat_abs, ◌+ℤ◌, ◌-ℤ◌, +ℤ_assoc, +ℤ_comm, pos-+ℤ-pos, pos-ne-negsuc}
+use lib.Signed.{mag, non_neg}
 use Rattle.std.specs.Prelude.{None}
 use Rattle.std.proofs.lemmas.Int.{ints}
 use Rattle.std.specs.Int.{FitsUnsigned}
@@ -35,6 +35,23 @@ module _ (limit : ℕ) where
   unfolding moved_to shown_by
   moved_none few (pos n) h = by_test (ltb n limit) (λ t. let l = ltb-true n limit t in absurd (h (omega (arith, ints), omega (arith, ints)))) (λ t. rw t)
   moved_none few (negsuc n) h = refl
+
+-- ---- moved by an advance of either sign, with its magnitude
+module _ (limit from : ℕ) where
+  pub up : (z : ℤ) → z ≡ pos (nat_abs z) → moved_to limit (pos from +ℤ z) ≡ shown_by limit (from + nat_abs z)
+  unfolding moved_to
+  up (pos n) h = ap (moved_to limit) (pos-+ℤ-pos from n)
+  up (negsuc n) h = absurd (pos-ne-negsuc (suc n) n (sym h))
+
+  pub down : (z : ℤ) → z ≡ negsuc (mag z) → nat_abs z ≤ from → moved_to limit (pos from +ℤ z) ≡ shown_by limit (from - nat_abs z)
+  unfolding moved_to
+  down (pos n) h l = absurd (pos-ne-negsuc n n h)
+  down (negsuc n) h l = ap (moved_to limit) (less from (suc n) l)
+
+  pub out : (z : ℤ) → z ≡ negsuc (mag z) → from < nat_abs z → moved_to limit (pos from +ℤ z) ≡ None
+  unfolding moved_to
+  out (pos n) h l = absurd (pos-ne-negsuc n n h)
+  out (negsuc n) h l = ap (λ (t : Bool). moved_to limit (cond t (negsuc (suc n - suc from)) (pos (from - suc n)))) (lt-ltb from (suc n) l)
 
 -- ---- the flag's part may be added first
 pub flag_first : (last flag turn : ℕ) (z : ℤ) → pos (last + turn * flag) +ℤ z ≡ pos last +ℤ z +ℤ pos (flag * turn)

@@ -1,16 +1,16 @@
 -- When a withdrawal changes a tally: where none of its numbers would be below 0, and the last value is one that the dials show.
 use Rattle.std.specs.Prelude.{Some, None}
 use mathlib.Core.Path.{◌≡◌, refl}
-use mathlib.Core.Bool.{true, false, ◌&&◌, cond, and-false}
+use mathlib.Core.Bool.{true, false, ◌&&◌, ◌||◌, cond, and-false}
 use Prim.Native.Nat.{ℕ, ◌-◌, ◌≤◌, ◌<◌}
 use native.Mathlib.Omega.{arith}
-use borrow.Author.Tests.{eqb-true, ltb-false}
+use borrow.Author.Tests.{eqb-true, ltb-true, ltb-false}
 use lib.Dec.{eqb, ltb}
 use lib.IntN.{ℤ, pos, negsuc, nat_abs, ◌-ℤ◌}
 use lib.Signed.{non_neg}
 use Rattle.arithmetic.specs.Powers.{ten_to}
 use Rattle.terms.specs.Number.{accepted}
-use Rattle.calls.proofs.Bools.{by_test, apart}
+use Rattle.calls.proofs.Bools.{by_test, either_of, apart}
 use Rattle.tally.specs.declared.tally.Tally.{Tally}
 use Rattle.tally.specs.Tally.{tallied, tally_number}
 use Rattle.tally.specs.Change.{Wanted, tally_for, may_be, made_to, without_read}
@@ -52,6 +52,12 @@ module _ (t : Tally) (flag : ℕ) (advance : ℤ) where
   pub few_flagged : t.flagged < flag → made_to wanted t ≡ t
   unfolding may_be without_read
   few_flagged few = made_not wanted t (rw (below t.flagged flag few) (and-false (non_neg (pos t.standing -ℤ pos 1))))
+
+  pub too_few : eqb t.standing 0 || ltb t.flagged flag ≡ true → made_to wanted t ≡ t
+  too_few h =
+      either_of (eqb t.standing 0) (ltb t.flagged flag) h
+      (λ none. few_standing (let e = eqb-true _ 0 none in omega (arith, e)))
+      (λ few. few_flagged (ltb-true _ flag few))
 
   -- none is made of it, whatever the other numbers are
   no_last : (z : ℤ) → wanted.last ≡ z → moved_to (ten_to t.dials) z ≡ None → non_neg wanted.last && eqb (tally_number (tally_for wanted)) accepted ≡ false
