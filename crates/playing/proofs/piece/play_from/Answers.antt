@@ -12,7 +12,7 @@ loop-play-init c = set_out _ _ refl
 
 pub loop-play-preserved : goal.loop-play-preserved
 loop-play-preserved c =
-    gone_on _ _ c.loop-play.invariant c.if-sheet-gt-SHEET_MOST.false c.if-play-ge-LINE_MOST.true c.turn.ensures.kept c.turn.ensures.turned
+    gone_on _ _ c.loop-play.invariant c.if-sheet-gt-SHEET_MOST.false (omega (arith, c.if-play-ge-LINE_MOST.true)) c.turn.ensures.kept c.turn.ensures.turned
 
 pub returns : goal.returns
 returns c =
